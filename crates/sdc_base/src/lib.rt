@@ -1,0 +1,7 @@
+//! The lowest crate: what every other crate of the tool stands on, and nothing about timing.
+//!
+//! It gives the layer above: the two errors of memory (`NoMemory`, `Stop`), text and lists that contracts
+//! see as lists (`Text`, `List`), copies that equal their original (`Duplicate`), exact decimal numbers and
+//! times (`Fixed`, `time_text`), and the outside as two traits (`Inputs`, `Outputs`) with four forms in
+//! memory and whole reads and writes over them. It leaves what a file holds to the crates above.
+#![tactic(auto)]
