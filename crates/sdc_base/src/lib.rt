@@ -5,3 +5,13 @@
 //! times (`Fixed`, `time_text`), and the outside as two traits (`Inputs`, `Outputs`) with four forms in
 //! memory and whole reads and writes over them. It leaves what a file holds to the crates above.
 #![tactic(auto)]
+
+mod duplicate;
+mod lists;
+mod memory;
+mod texts;
+
+pub use duplicate::Duplicate;
+pub use lists::{Bits, List};
+pub use memory::{At, NoMemory, Stop};
+pub use texts::Text;
