@@ -1,1 +1,4 @@
+pub mod Channels
+pub mod Counting
+pub mod Files
 pub mod Gives

@@ -9,9 +9,13 @@
 mod duplicate;
 mod lists;
 mod memory;
+mod outside;
 mod texts;
+mod whole;
 
 pub use duplicate::Duplicate;
 pub use lists::{Bits, List};
 pub use memory::{At, NoMemory, Stop};
+pub use outside::{Channel, Inputs, NamedBytes, Outputs, Refusal};
 pub use texts::Text;
+pub use whole::{MOST_BYTES, ReadStop};
