@@ -7,13 +7,17 @@
 #![tactic(auto)]
 
 mod duplicate;
+mod fixed;
 mod lists;
 mod memory;
+mod number_text;
 mod outside;
+mod rounding;
 mod texts;
 mod whole;
 
 pub use duplicate::Duplicate;
+pub use fixed::{Fixed, NumberError};
 pub use lists::{Bits, List};
 pub use memory::{At, NoMemory, Stop};
 pub use outside::{Channel, Inputs, NamedBytes, Outputs, Refusal};

@@ -1,0 +1,4 @@
+pub mod DigitFacts
+pub mod NearestFacts
+pub mod ReadFacts
+pub mod TimeFacts
