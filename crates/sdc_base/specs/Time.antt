@@ -1,6 +1,6 @@
 -- Times as whole femtoseconds: what a number of units is in femtoseconds, and how a time is written in units.
 -- The units are those of Liberty's time_unit; the limit of 10 ^ 16 fs and the rounding are this project's own.
-use Rattle.std.specs.Prelude.{◌≡◌, ℕ, ◌*◌, ◌^◌, ◌⊎◌, Bool, nat_le, if◌then◌else◌, Result, Ok, Err, ℤ, pos, unsigned_abs}
+use Rattle.std.specs.Prelude.{◌≡◌, ℕ, zero, suc, ◌+◌, ◌*◌, ◌/◌, ◌%◌, ◌^◌, ◌⊎◌, Bool, ◌==◌, nat_le, if◌then◌else◌, List, [], ◌∷◌, ◌++◌, Result, Ok, Err, ℤ, pos, unsigned_abs, decimal}
 use Rattle.std.specs.Int.{is_negative}
 use Rattle.sdc_base.specs.Number.{Number, nearest, with_sign}
 use Rattle.sdc_base.specs.declared.fixed.NumberError.{NumberError}
@@ -18,3 +18,22 @@ time_within negative m = if nat_le m (10 ^ 16) then Ok (with_sign negative m) el
 unfoldable pub time_of : Number → ℤ → Result ℤ NumberError
 time_of n unit =
     time_within (is_negative n.scaled) (nearest (unsigned_abs n.scaled * unsigned_abs unit) (10 ^ 9))
+
+-- the digits of r / u behind the point, at most so many, by long division; they end where nothing is left
+unfoldable pub places : ℕ → ℕ → ℕ → List ℕ
+places zero r u = []
+places (suc k) r u = if r == 0 then [] else (48 + r * 10 / u) ∷ places k (r * 10 % u) u
+
+-- the point and what stands behind it, where there is anything left; a unit has at most six places
+abbrev pub decimals_text : ℕ → ℕ → List ℕ
+decimals_text r u = if r == 0 then [] else 46 ∷ places 6 r u
+
+abbrev pub minus_text : Bool → List ℕ
+minus_text negative = if negative then 45 ∷ [] else []
+
+-- a time as its number of units: decimals only where needed, and no zero at their end
+unfoldable pub time_text_of : ℤ → ℤ → List ℕ
+time_text_of fs unit =
+    let m = unsigned_abs fs in
+    let u = unsigned_abs unit in
+    minus_text (is_negative fs) ++ (decimal (m / u) ++ decimals_text (m % u) u)

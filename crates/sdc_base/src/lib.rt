@@ -14,6 +14,7 @@ mod number_text;
 mod outside;
 mod rounding;
 mod texts;
+mod times;
 mod whole;
 
 pub use duplicate::Duplicate;
@@ -22,4 +23,5 @@ pub use lists::{Bits, List};
 pub use memory::{At, NoMemory, Stop};
 pub use outside::{Channel, Inputs, NamedBytes, Outputs, Refusal};
 pub use texts::Text;
+pub use times::time_text;
 pub use whole::{MOST_BYTES, ReadStop};
