@@ -24,4 +24,8 @@ pub use memory::{At, NoMemory, Stop};
 pub use outside::{Channel, Inputs, NamedBytes, Outputs, Refusal};
 pub use texts::Text;
 pub use times::time_text;
+
+#[cfg(test)]
+mod number_tests;
+
 pub use whole::{MOST_BYTES, ReadStop};
