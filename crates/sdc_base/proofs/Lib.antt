@@ -1,5 +1,7 @@
 pub mod DigitFacts
+pub mod LawFacts
 pub mod NearestFacts
 pub mod PlaceFacts
 pub mod ReadFacts
+pub mod SpellingFacts
 pub mod TimeFacts

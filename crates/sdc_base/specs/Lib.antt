@@ -5,3 +5,4 @@ pub mod Gives
 pub mod Number
 pub mod Time
 pub mod NumberText
+pub mod NumberLaws
