@@ -1,10 +1,9 @@
 -- The laws of reading a number.
-use Rattle.std.proofs.Common.{◌≡◌, ◌↔◌, ℕ, ◌+◌, ◌*◌, ◌^◌, ◌<◌, ◌≤◌, Bool, true, false, ◌&&◌, cond, nat_lt, List, length, Result, Ok, Err, ℤ, refl, sym, ap, subst, ◌∙◌, arith}
+use Rattle.std.proofs.Common.{◌≡◌, ℕ, ◌+◌, ◌^◌, ◌<◌, ◌≤◌, true, false, nat_lt, List, length, Ok, Err, refl, sym, ap, subst, ◌∙◌, arith}
 use Rattle.std.proofs.lemmas.Bool.Decides.{nat_tests}
 use Rattle.std.specs.Int.RustNames.{unsigned_abs}
-use Rattle.sdc_base.specs.Number.{Number, Parts, spelling, Fits, is_number, is_minus, is_whole, numerator, denominator, nearest, IsNearest, with_sign, in_range, number_with, number_of, decimals_in, lowered, parts_of, read_number}
+use Rattle.sdc_base.specs.Number.{Number, Parts, is_number, is_minus, is_whole, numerator, denominator, nearest, IsNearest, with_sign, number_of, decimals_in, lowered, parts_of, read_number}
 use Rattle.sdc_base.specs.NumberLaws.{Means, Spells, ReadIsSpelled, SpelledIsRead, RangeIsExact, FormIsExact}
-use Rattle.sdc_base.specs.declared.fixed.NumberError.{NumberError}
 use Rattle.sdc_base.specs.declared.fixed.NumberError.TheVariants.{NumberForm, NumberRange}
 use Rattle.sdc_base.proofs.DigitFacts.{by_bool}
 use Rattle.sdc_base.proofs.NearestFacts.{ten_pos, IsNearest-nearest, nearest-IsNearest}

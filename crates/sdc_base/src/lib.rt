@@ -22,7 +22,7 @@ pub use duplicate::Duplicate;
 pub use fixed::{Fixed, NumberError};
 pub use lists::{Bits, List};
 pub use memory::{At, NoMemory, Stop};
-pub use number_laws::reading_is_exact;
+pub use number_laws::{reading_is_exact, time_texts_read_back, times_are_nearest};
 pub use outside::{Channel, Inputs, NamedBytes, Outputs, Refusal};
 pub use texts::Text;
 pub use times::time_text;

@@ -1,7 +1,8 @@
 //! Laws above the definitions of numbers and times, as contracts of functions that do nothing.
 
-ghost use Rattle.std.specs.Prelude.{List, ℕ};
-ghost use Rattle.sdc_base.specs.NumberLaws.{ReadIsSpelled, SpelledIsRead, RangeIsExact, FormIsExact};
+ghost use Rattle.std.specs.Prelude.{List, ℕ, ℤ};
+ghost use Rattle.sdc_base.specs.Number.{Number};
+ghost use Rattle.sdc_base.specs.NumberLaws.{ReadIsSpelled, SpelledIsRead, RangeIsExact, FormIsExact, TimeIsNearest, TimeRangeIsExact, TimeTextReadsBack, TimeTextIsPlain};
 
 /// Reading is exact: what is read is what parts that fit spell, with their value to nearest, and a text is
 /// refused as out of range, or for its form, exactly where the form of a number says so.
@@ -10,4 +11,16 @@ pub fn reading_is_exact()
     ensures spelled { (text : List ℕ) → SpelledIsRead text }
     ensures range { (text : List ℕ) → RangeIsExact text }
     ensures form { (text : List ℕ) → FormIsExact text }
+{}
+
+/// A number of units is the nearest time, ties away from zero, and out of range exactly above 10^16 fs.
+pub fn times_are_nearest()
+    ensures time { (n : Number) (unit : ℤ) → TimeIsNearest n unit }
+    ensures range { (n : Number) (unit : ℤ) → TimeRangeIsExact n unit }
+{}
+
+/// The text of a time is digits with at most a minus and a point, and is read back as that time.
+pub fn time_texts_read_back()
+    ensures back { (fs unit : ℤ) → TimeTextReadsBack fs unit }
+    ensures plain { (fs unit : ℤ) → TimeTextIsPlain fs unit }
 {}
