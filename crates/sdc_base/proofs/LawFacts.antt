@@ -1,7 +1,6 @@
 -- The laws of reading a number.
 use Rattle.std.proofs.Common.{◌≡◌, ℕ, ◌+◌, ◌^◌, ◌<◌, ◌≤◌, true, false, nat_lt, List, length, Ok, Err, refl, sym, ap, subst, ◌∙◌, arith}
 use Rattle.std.proofs.lemmas.Bool.Decides.{nat_tests}
-use Rattle.std.specs.Int.RustNames.{unsigned_abs}
 use Rattle.sdc_base.specs.Number.{Number, Parts, is_number, is_minus, is_whole, numerator, denominator, nearest, IsNearest, with_sign, number_of, decimals_in, lowered, parts_of, read_number}
 use Rattle.sdc_base.specs.NumberLaws.{Means, Spells, ReadIsSpelled, SpelledIsRead, RangeIsExact, FormIsExact}
 use Rattle.sdc_base.specs.declared.fixed.NumberError.TheVariants.{NumberForm, NumberRange}
@@ -73,14 +72,10 @@ read_is_spelled text n h =
     (λ _ t. (parts_of text, own_parts text t, number_of_ok (parts_of text) n (sym (read_is text t) ∙ h)))
     (λ _ t. let k = read_unfit text t in absurd cc) refl
 
-pub same_number : (p : Parts) (n : Number) → Means p n → with_magnitude p (unsigned_abs n.scaled) ≡ n
-same_number p n m = rw (sym m.sign, sym m.whole) refl
-
 pub spelled_is_read : (text : List ℕ) → SpelledIsRead text
-spelled_is_read text p n s m =
-    let a = nearest-IsNearest (numerator p) (denominator p) (unsigned_abs n.scaled) (denominator_pos p) m.value in
-    let b = number_of_below p (unsigned_abs n.scaled) a m.below in
-    read_spelled text p s ∙ b ∙ ap Ok (same_number p n m)
+spelled_is_read text p m s near h =
+    let a = nearest-IsNearest (numerator p) (denominator p) m (denominator_pos p) near in
+    (with_magnitude p m, read_spelled text p s ∙ number_of_below p m a h, Means_with p m near h)
 
 pub range_is_exact : (text : List ℕ) → RangeIsExact text
 range_is_exact text p m s near =

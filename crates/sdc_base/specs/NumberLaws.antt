@@ -25,10 +25,11 @@ pub record Spells (p : Parts) (text : List ℕ) : Type 0 where
 abbrev pub ReadIsSpelled : List ℕ → Type 0
 ReadIsSpelled text = (n : Number) → read_number text ≡ Ok n → (p : Parts) × Spells p text × Means p n
 
--- what parts that fit spell is read, with their value, where its rounded magnitude is below 10 ^ 15
+-- what parts that fit spell is read, and means what they mean, where their rounded magnitude is below 10 ^ 15
 abbrev pub SpelledIsRead : List ℕ → Type 0
 SpelledIsRead text =
-    (p : Parts) (n : Number) → Spells p text → Means p n → read_number text ≡ Ok n
+    (p : Parts) (m : ℕ) → Spells p text → IsNearest (numerator p) (denominator p) m → m < 10 ^ 24 →
+    (n : Number) × (read_number text ≡ Ok n) × Means p n
 
 -- and is out of range exactly where that magnitude is not
 abbrev pub RangeIsExact : List ℕ → Type 0
