@@ -4,3 +4,4 @@ pub use Rattle.sdc_base.specs.Files
 pub use Rattle.sdc_base.specs.Channels
 pub mod Bytes
 pub mod Commands
+pub mod Relation

@@ -1,0 +1,21 @@
+//! How two clock edges lie to each other in time.
+
+use sdc_base::{Duplicate, NoMemory};
+use std::alloc::Global;
+
+/// The setup and the hold relation of a launch edge and a capture edge, in whole femtoseconds.
+///
+/// The rule is this project's own: `setup` is the least positive difference by which an edge of the capture clock
+/// follows one of the launch clock, and `hold` the greatest difference that is not above 0.
+/// `specs/Relation.antt` says so in full.
+#[derive(Debug, Clone, Copy, PartialEq, Eq, PartialOrd, Ord)]
+pub struct Relation {
+    pub setup: i64,
+    pub hold: i64,
+}
+
+impl Duplicate for Relation {
+    fn copy(&self, _alloc: Global) -> Result<Relation, NoMemory> {
+        Ok(*self)
+    }
+}
