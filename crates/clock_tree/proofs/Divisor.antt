@@ -1,5 +1,5 @@
 -- The greatest common divisor of two periods is a difference of whole multiples of them, either way round.
-use Rattle.std.proofs.Common.{◌≡◌, ℕ, zero, suc, ◌+◌, ◌-◌, ◌*◌, ◌/◌, ◌%◌, ◌<◌, ◌≤◌, ◌⊎◌, inl, inr, sym, subst, ap, arith}
+use Rattle.std.proofs.Common.{◌≡◌, ℕ, zero, suc, ◌+◌, ◌-◌, ◌*◌, ◌/◌, ◌%◌, ◌<◌, ◌≤◌, inl, inr, sym, subst, ap, arith}
 use Rattle.std.proofs.Math.Nat.{div-add-mod, eq-or-lt_of_le}
 use Rattle.std.proofs.lemmas.Nat.Gcd.{IsGcd-from_zero, IsGcd-from_mod, same_from_IsGcd}
 use Rattle.std.specs.Int.{IsGcd}
@@ -29,7 +29,7 @@ step p q g d =
       more_q = d.more_p + d.less_q * (p / q);
       less_p = d.less_q;
       above_q = forward p q (p / q) (p % q) g 0 0 d.more_q d.less_p split d.above_p;
-      above_p = backward p q (p / q) (p % q) g d.more_p d.less_q split d.above_q
+      above_p = backward p q (p / q) (p % q) g d.more_p d.less_q split d.above_q;
     }
 
 -- q fits into its multiple p at least once
@@ -52,7 +52,7 @@ last p q some none =
       more_q = 1;
       less_p = 0;
       above_q = above p q k least split;
-      above_p = omega arith
+      above_p = omega arith;
     }
 
 -- a greatest common divisor that is such a difference, where q is at most n
@@ -61,10 +61,10 @@ found zero p q some_p some_q le = absurd (omega arith)
 found (suc n) p q some_p some_q le =
     let below : p % q < q = omega arith in
     elim (eq-or-lt_of_le {n = 0} {m = p % q} (omega arith)) [
-      inl none ↦ (q, (IsGcd-from_mod p q q (IsGcd-from_zero q (p % q) (sym none)), last p q some_p (sym none)))
-    | inr some ↦
-        let deeper = found n q (p % q) some_q some (omega arith) in
-        (deeper.0, (IsGcd-from_mod p q deeper.0 deeper.1.0, step p q deeper.0 deeper.1.1))
+      | inl none ↦ (q, (IsGcd-from_mod p q q (IsGcd-from_zero q (p % q) (sym none)), last p q some_p (sym none)))
+      | inr some ↦
+          let deeper = found n q (p % q) some_q some (omega arith) in
+          (deeper.0, (IsGcd-from_mod p q deeper.0 deeper.1.0, step p q deeper.0 deeper.1.1))
     ]
 
 -- so is the greatest common divisor

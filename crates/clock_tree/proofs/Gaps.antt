@@ -1,5 +1,5 @@
 -- The gaps of two clocks are the numbers that differ from the gap of their first edges by whole multiples of the periods' divisor.
-use Rattle.std.proofs.Common.{◌≡◌, ℕ, ◌+◌, ◌*◌, ◌/◌, ◌<◌, ◌≤◌, ◌⊎◌, ℤ, pos, negsuc, ◌+ℤ◌, ◌-ℤ◌, ◌≤ℤ◌, ◌<ℤ◌, sym, ap, arith}
+use Rattle.std.proofs.Common.{◌≡◌, ℕ, ◌+◌, ◌*◌, ◌/◌, ◌<◌, ◌≤◌, ℤ, pos, ◌+ℤ◌, ◌-ℤ◌, ◌≤ℤ◌, ◌<ℤ◌, ap, arith}
 use Rattle.std.proofs.Math.Nat.{div-mul_cancel, lt_of_not-le, mul-le-mul_right}
 use Rattle.std.proofs.lemmas.Int.{ints, by_lt_z}
 use Rattle.std.specs.Int.{IsGcd}
@@ -21,7 +21,7 @@ pub shifted_from_gap : (a p b q g : ℕ) (d : ℤ) → IsGcd p q g → IsGap (po
 shifted_from_gap a p b q g d h gap = record {
   up = gap.0 * (p / g);
   down = gap.1 * (q / g);
-  same = multiples a p b q (p / g) (q / g) g gap.0 gap.1 d (div-mul_cancel g h.0) (div-mul_cancel g h.1) gap.2
+  same = multiples a p b q (p / g) (q / g) g gap.0 gap.1 d (div-mul_cancel g h.0) (div-mul_cancel g h.1) gap.2;
 }
 
 -- and one is a gap
@@ -45,18 +45,24 @@ apart a b g s d h h' below = further a b g h.up h.down h'.up h'.down s d h.same 
 
 -- the one of them from 1 to g is the setup relation, and g less is the hold relation
 pub setup_from_shifted : (a p b q g : ℕ) (s : ℤ) → IsGcd p q g → IsDifference p q g → IsShifted a b g s → pos 0 <ℤ s → s ≤ℤ pos g → IsSetup (pos a) (pos p) (pos b) (pos q) s
-setup_from_shifted a p b q g s common difference h some most =
-    (gap_from_shifted a p b q g s difference h, some, λ d gap positive.
+setup_from_shifted a p b q g s common difference h some most = (
+  gap_from_shifted a p b q g s difference h,
+  some,
+  λ d gap positive.
       by_lt_z d s
-        (λ below. let near : (d +ℤ pos g) ≤ℤ s = apart a b g d s (shifted_from_gap a p b q g d common gap) h below in absurd (omega (arith, ints)))
-        (λ done. done))
+      (λ below. let near : (d +ℤ pos g) ≤ℤ s = apart a b g d s (shifted_from_gap a p b q g d common gap) h below in absurd (omega (arith, ints)))
+      (λ done. done),
+)
 
 pub hold_from_shifted : (a p b q g : ℕ) (s : ℤ) → IsGcd p q g → IsDifference p q g → IsShifted a b g s → (s ≤ℤ pos 0) → pos 0 <ℤ (s +ℤ pos g) → IsHold (pos a) (pos p) (pos b) (pos q) s
-hold_from_shifted a p b q g s common difference h none next =
-    (gap_from_shifted a p b q g s difference h, none, λ d gap small.
+hold_from_shifted a p b q g s common difference h none next = (
+  gap_from_shifted a p b q g s difference h,
+  none,
+  λ d gap small.
       by_lt_z s d
-        (λ below. let near : (s +ℤ pos g) ≤ℤ d = apart a b g s d h (shifted_from_gap a p b q g d common gap) below in absurd (omega (arith, ints)))
-        (λ done. done))
+      (λ below. let near : (s +ℤ pos g) ≤ℤ d = apart a b g s d h (shifted_from_gap a p b q g d common gap) below in absurd (omega (arith, ints)))
+      (λ done. done),
+)
 
 less : (a b g m n : ℕ) (s h : ℤ) → (h +ℤ pos g) ≡ s → s +ℤ pos (a + m * g) ≡ pos (b + n * g) → h +ℤ pos (a + (m + 1) * g) ≡ pos (b + n * g)
 less a b g m n s h below e = omega (arith, ints)
@@ -67,5 +73,5 @@ IsRelation-from_shifted a p b q g r some_p some_q common h some most below =
     let shifted : IsShifted a b g r.hold = record { up = h.up + 1; down = h.down; same = less a b g h.up h.down r.setup r.hold below h.same } in
     record {
       setup = setup_from_shifted a p b q g r.setup common difference h some most;
-      hold = hold_from_shifted a p b q g r.hold common difference shifted (omega (arith, ints)) (omega (arith, ints))
+      hold = hold_from_shifted a p b q g r.hold common difference shifted (omega (arith, ints)) (omega (arith, ints));
     }

@@ -4,6 +4,11 @@
 #![tactic(auto)]
 
 mod common_divisor;
+mod edge_laws;
 mod edge_relation;
+#[cfg(test)]
+mod tests;
 
+pub use edge_laws::{relation_is_unique, relation_of_equal_edges};
 pub use edge_relation::relation;
+pub use sdc_model::Relation;

@@ -4,7 +4,7 @@
 use Rattle.std.specs.Prelude.{◌≡◌, ℕ, ◌*◌, ◌^◌, ℤ, pos, ◌+ℤ◌, ◌-ℤ◌, ◌*ℤ◌, ◌≤ℤ◌, ◌<ℤ◌}
 use Rattle.sdc_model.specs.declared.edge_times.Relation.{Relation}
 
--- the time is one that a clock of this period may have its first such edge at: both lie in the tool's ranges
+-- an edge of a clock as the tool takes them: a time from 0 to 2 * 10^12, a period from 1 to 10^12
 abbrev pub IsEdgeOf : ℤ → ℤ → Type 0
 IsEdgeOf time period =
     (pos 0 ≤ℤ time) × (time ≤ℤ pos (2 * 10 ^ 12)) × (pos 1 ≤ℤ period) × (period ≤ℤ pos (10 ^ 12))

@@ -10,7 +10,9 @@ use std::alloc::Global;
 /// `specs/Relation.antt` says so in full.
 #[derive(Debug, Clone, Copy, PartialEq, Eq, PartialOrd, Ord)]
 pub struct Relation {
+    /// How far the next capture edge is behind a launch edge at the closest: above 0.
     pub setup: i64,
+    /// How far a capture edge that is not behind a launch edge is from it at the closest: 0 or less.
     pub hold: i64,
 }
 

@@ -1,5 +1,5 @@
-use Rattle.std.proofs.Common.{◌≡◌, ℕ, ℤ, pos, ◌+ℤ◌, ◌-ℤ◌, to_z, w64, arith}
-use Rattle.std.proofs.lemmas.Int.{ints, to_z_pos}
+use Rattle.std.proofs.Common.{arith}
+use Rattle.std.proofs.lemmas.Int.{ints}
 use Rattle.clock_tree.proofs.Remainder.{IsStep, IsStep-from_lengths, IsRelation-from_code}
 use Rattle.clock_tree.proofs.edge_relation.relation.Goals as goal
 
