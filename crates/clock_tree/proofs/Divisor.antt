@@ -14,8 +14,8 @@ pub record IsDifference (p q g : ℕ) : Type 0 where
   pub above_p : more_q * q ≡ less_p * p + g
 
 -- from the remainder r to p
-forward : (p q k r g x y u v : ℕ) → q * k + r ≡ p → u * r ≡ v * q + g → u * p ≡ (u * k + v) * q + g
-forward p q k r g x y u v split e = omega (arith, ap (λ n. u * n) split)
+forward : (p q k r g u v : ℕ) → q * k + r ≡ p → u * r ≡ v * q + g → u * p ≡ (u * k + v) * q + g
+forward p q k r g u v split e = omega (arith, ap (λ n. u * n) split)
 
 backward : (p q k r g x y : ℕ) → q * k + r ≡ p → x * q ≡ y * r + g → (x + y * k) * q ≡ y * p + g
 backward p q k r g x y split e = omega (arith, ap (λ n. y * n) split)
@@ -28,7 +28,7 @@ step p q g d =
       less_q = d.more_q * (p / q) + d.less_p;
       more_q = d.more_p + d.less_q * (p / q);
       less_p = d.less_q;
-      above_q = forward p q (p / q) (p % q) g 0 0 d.more_q d.less_p split d.above_p;
+      above_q = forward p q (p / q) (p % q) g d.more_q d.less_p split d.above_p;
       above_p = backward p q (p / q) (p % q) g d.more_p d.less_q split d.above_q;
     }
 

@@ -24,17 +24,17 @@ remainder_shifted a b g s some e =
     (record { up = m / g; down = a + 1; same = next a b g m (m / g) (m % g) s start (div-add-mod m g) value }, omega (arith, ints), omega (arith, ints))
 
 -- the divisor of two periods is above 0, and no greater than a period may be
-divisor_range : (a p b q : ℤ) (g : ℕ) → IsEdgeOf a p → IsGcd (unsigned_abs p) (unsigned_abs q) g → (0 < g) × (g ≤ 10 ^ 12)
-divisor_range a (pos p) b q g launch common =
+divisor_range : (a p q : ℤ) (g : ℕ) → IsEdgeOf a p → IsGcd (unsigned_abs p) (unsigned_abs q) g → (0 < g) × (g ≤ 10 ^ 12)
+divisor_range a (pos p) q g launch common =
     let some : 0 < p = omega (arith, ints) in
     let most : p ≤ 10 ^ 12 = omega (arith, ints) in
     let least : g ≤ p = le_of_dvd some common.0 in
     (pos_of_dvd_of_pos common.0 some, omega arith)
-divisor_range a (negsuc p) b q g launch common = absurd (omega (arith, ints))
+divisor_range a (negsuc p) q g launch common = absurd (omega (arith, ints))
 
 IsRelation-from_remainder : (a p b q : ℤ) (g : ℕ) (r : Relation) → IsEdgeOf a p → IsEdgeOf b q → IsGcd (unsigned_abs p) (unsigned_abs q) g → r.setup ≡ (int_rem_euclid ((b -ℤ a) -ℤ pos 1) (pos g) +ℤ pos 1) → r.hold ≡ (r.setup -ℤ pos g) → IsRelation a p b q r
 IsRelation-from_remainder (pos a) (pos p) (pos b) (pos q) g r launch capture common setup hold =
-    let some : 0 < g = (divisor_range (pos a) (pos p) (pos b) (pos q) g launch common).0 in
+    let some : 0 < g = (divisor_range (pos a) (pos p) (pos q) g launch common).0 in
     let s = remainder_shifted a b g r.setup some setup in
     IsRelation-from_shifted a p b q g r (omega (arith, ints)) (omega (arith, ints)) common s.0 s.1 s.2 (omega (arith, ints))
 IsRelation-from_remainder (negsuc a) p b q g r launch capture common setup hold = absurd (omega (arith, ints))
@@ -53,7 +53,7 @@ pub record IsStep (p q : ℤ) (g : ℕ) : Type 0 where
 pub IsStep-from_lengths : (a p q : ℤ) (m n g : ℕ) → SFits w64 p → SFits w64 q → IsEdgeOf a p → m ≡ unsigned_abs (to_z w64 (of_z w64 p)) → n ≡ unsigned_abs (to_z w64 (of_z w64 q)) → IsGcd m n g → IsStep p q g
 IsStep-from_lengths a p q m n g fits_p fits_q launch first second h =
     let common = subst (λ k. IsGcd k (unsigned_abs q) g) (simp to_z-of_z at first) (subst (λ k. IsGcd m k g) (simp to_z-of_z at second) h) in
-    let range = divisor_range a p a q g launch common in
+    let range = divisor_range a p q g launch common in
     record { common = common; some = range.0; most = range.1 }
 
 pub IsRelation-from_code : (a p b q rest : ℤ) (g : ℕ) → IsEdgeOf a p → IsEdgeOf b q → IsStep p q g → rest ≡ int_rem_euclid (to_z w64 (of_z w64 (to_z w64 (of_z w64 (to_z w64 (of_z w64 b) -ℤ to_z w64 (of_z w64 a))) -ℤ pos 1))) (to_z w64 g) → IsNonNegative rest → unsigned_abs rest < unsigned_abs (to_z w64 g) → IsRelation a p b q (record { setup = to_z w64 (of_z w64 (to_z w64 (of_z w64 rest) +ℤ pos 1)); hold = to_z w64 (of_z w64 (to_z w64 (of_z w64 (to_z w64 (of_z w64 rest) +ℤ pos 1)) -ℤ to_z w64 g)) })
