@@ -7,15 +7,25 @@
 #![tactic(auto)]
 
 mod duplicate;
+mod fixed;
 mod lists;
 mod memory;
+mod number_text;
 mod outside;
+mod rounding;
 mod texts;
+mod times;
 mod whole;
 
 pub use duplicate::Duplicate;
+pub use fixed::{Fixed, NumberError};
 pub use lists::{Bits, List};
 pub use memory::{At, NoMemory, Stop};
 pub use outside::{Channel, Inputs, NamedBytes, Outputs, Refusal};
 pub use texts::Text;
+pub use times::time_text;
+
+#[cfg(test)]
+mod number_tests;
+
 pub use whole::{MOST_BYTES, ReadStop};

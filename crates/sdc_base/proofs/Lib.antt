@@ -1,0 +1,5 @@
+pub mod DigitFacts
+pub mod NearestFacts
+pub mod PlaceFacts
+pub mod ReadFacts
+pub mod TimeFacts
