@@ -18,4 +18,4 @@ pub use lists::{Bits, List};
 pub use memory::{At, NoMemory, Stop};
 pub use outside::{Channel, Inputs, NamedBytes, Outputs, Refusal};
 pub use texts::Text;
-pub use whole::{MOST_BYTES, ReadStop};
+pub use whole::{MOST_BYTES, ReadStop, read_all, write_all};

@@ -4,8 +4,10 @@ ghost use Rattle.std.specs.Prelude.{◌≡◌, ◌<◌, ◌≤◌, ℕ, Option, 
 ghost use Rattle.sdc_base.specs.Counting.{Rose};
 ghost use Rattle.sdc_base.specs.Files.{Reading, Begins, Reads};
 ghost use Rattle.sdc_base.specs.Channels.{Written, Creates, Writes};
+ghost use Rattle.sdc_base.specs.declared.outside.Refusal.TheVariants as refusal;
 
 use crate::lists::List;
+use crate::memory::NoMemory;
 use crate::texts::Text;
 use thiserror::Error;
 
@@ -17,6 +19,14 @@ pub enum Refusal {
     Failed,
     #[error("out of memory")]
     NoMemory,
+}
+
+impl From<NoMemory> for Refusal {
+    ghost from_gives = { λ _ answer. answer ≡ refusal.NoMemory };
+
+    fn from(_error: NoMemory) -> Refusal {
+        Refusal::NoMemory
+    }
 }
 
 /// Where a piece of output goes.

@@ -1,0 +1,2 @@
+pub mod WholeReads
+pub mod WholeWrites
