@@ -2,3 +2,4 @@ pub mod Channels
 pub mod Counting
 pub mod Files
 pub mod Gives
+pub mod MemoryForms

@@ -6,16 +6,24 @@
 //! memory and whole reads and writes over them. It leaves what a file holds to the crates above.
 #![tactic(auto)]
 
+mod counting;
 mod duplicate;
+mod files;
 mod lists;
+mod mem_inputs;
+mod mem_outputs;
 mod memory;
+mod memory_forms;
 mod outside;
+mod sure_inputs;
+mod sure_outputs;
 mod texts;
 mod whole;
 
 pub use duplicate::Duplicate;
 pub use lists::{Bits, List};
 pub use memory::{At, NoMemory, Stop};
+pub use memory_forms::{MemInputs, MemOutputs, SureInputs, SureOutputs};
 pub use outside::{Channel, Inputs, NamedBytes, Outputs, Refusal};
 pub use texts::Text;
 pub use whole::{MOST_BYTES, ReadStop, read_all, write_all};
