@@ -1,6 +1,6 @@
 -- What each call of the four forms in memory does, exactly. This project's own.
 -- The number of a call is the count of calls after it, so that the first call has number 1.
-use Rattle.std.specs.Prelude.{◌≡◌, ◌==◌, ◌+◌, ◌++◌, ◌↔◌, ℕ, List, [], length, take, drop, Some, None, Result, Ok, Err, Bool, true, ◌||◌, not, nat_eq, min, if◌then◌else◌, IsTrue}
+use Rattle.std.specs.Prelude.{◌≡◌, ◌==◌, ◌+◌, ◌++◌, ◌↔◌, ℕ, List, [], length, take, drop, Option, Some, None, Result, Ok, Err, Bool, true, ◌||◌, not, nat_eq, min, if◌then◌else◌, IsTrue}
 use Rattle.std.specs.List.{list_any}
 use Rattle.std.specs.Cmp.Lexicographic.{pointwise}
 use Rattle.sdc_base.specs.declared.outside.NamedBytes.{NamedBytes}
@@ -12,7 +12,7 @@ use Rattle.sdc_base.specs.declared.memory_forms.SureInputs.{SureInputs}
 use Rattle.sdc_base.specs.declared.memory_forms.MemOutputs.{MemOutputs}
 use Rattle.sdc_base.specs.declared.memory_forms.SureOutputs.{SureOutputs}
 use Rattle.sdc_base.specs.Counting.{next_count}
-use Rattle.sdc_base.specs.Files.{Reading, bytes_of, rest_of}
+use Rattle.sdc_base.specs.Files.{Reading, bytes_of}
 use Rattle.sdc_base.specs.Channels.{Written, appended}
 
 -- whether a number stands in a list
@@ -24,8 +24,8 @@ abbrev pub has_file : List NamedBytes → List ℕ → Bool
 has_file files name = list_any (λ (file : NamedBytes). pointwise nat_eq file.name name) files
 
 -- what MemInputs tells
-abbrev pub mem_reading : MemInputs → Reading
-mem_reading it = record { files = it.files; begun = if it.begun then Some it.name else None; offset = it.place }
+abbrev pub mem_files : MemInputs → Option Reading
+mem_files it = Some (record { files = it.files; begun = if it.begun then Some it.name else None; offset = it.place })
 
 -- one more call of MemInputs: the files and what is to fail stay
 pub record ReadsCounted (before after : MemInputs) : Type 0 where
@@ -85,9 +85,17 @@ pub record MemReads (old new : List ℕ) (answer : Result ℕ Refusal) (before a
   pub failed : (answer ≡ Err refusal.Failed) ↔ IsTrue (is_listed before.fail (next_count before.calls) || not before.begun)
   pub ends : MemReadEnds old new answer before after
 
+-- the count of faults of a sure form
+abbrev pub no_faults : {Form : Type 0} → Form → ℕ
+no_faults it = 0
+
 -- what SureInputs tells: the file that its name names is begun
-abbrev pub sure_reading : SureInputs → Reading
-sure_reading it = record { files = it.files; begun = Some it.name; offset = it.place }
+abbrev pub sure_files : SureInputs → Option Reading
+sure_files it = Some (record { files = it.files; begun = Some it.name; offset = it.place })
+
+-- the bytes of the begun file of SureInputs that are still to be read
+abbrev pub sure_left : SureInputs → List ℕ
+sure_left it = drop it.place (bytes_of it.files it.name)
 
 -- `begin` of SureInputs: a missing name begins an empty file, and want of memory changes nothing
 abbrev pub SureBegins : List ℕ → Result Unit Refusal → SureInputs → SureInputs → Type 0
@@ -97,8 +105,8 @@ SureBegins name (Err refusal.NoMemory) before after = after ≡ before
 
 -- the next bytes stand at the front of the buffer, whose other bytes stay: at most the room and what is left
 pub record SureNext (old new : List ℕ) (count : ℕ) (before after : SureInputs) : Type 0 where
-  pub many : count ≡ min (length old) (length (rest_of (sure_reading before)))
-  pub copied : new ≡ take count (rest_of (sure_reading before)) ++ drop count old
+  pub many : count ≡ min (length old) (length (sure_left before))
+  pub copied : new ≡ take count (sure_left before) ++ drop count old
   pub moved : after ≡ record before { place = before.place + count }
 
 -- `read` of SureInputs: it never refuses
@@ -106,9 +114,13 @@ abbrev pub SureReads : List ℕ → List ℕ → Result ℕ Refusal → SureInpu
 SureReads old new (Ok count) before after = SureNext old new count before after
 SureReads old new (Err _) before after = ⊥
 
--- what MemOutputs tells
+-- what stands in the channels of MemOutputs
 abbrev pub mem_written : MemOutputs → Written
 mem_written it = record { report = it.report; faults = it.faults_text; merged = it.merged; name = it.name }
+
+-- what MemOutputs tells
+abbrev pub mem_channels : MemOutputs → Option Written
+mem_channels it = Some (mem_written it)
 
 -- one more call of MemOutputs: what is to fail stays
 pub record WritesCounted (before after : MemOutputs) : Type 0 where
@@ -150,9 +162,13 @@ pub record MemWrites (channel : Channel) (piece : List ℕ) (answer : Result ℕ
   pub failed : (answer ≡ Err refusal.Failed) ↔ IsTrue (is_listed before.fail (next_count before.calls))
   pub ends : MemWriteEnds channel piece answer before after
 
--- what SureOutputs tells
+-- what stands in the channels of SureOutputs
 abbrev pub sure_written : SureOutputs → Written
 sure_written it = record { report = it.report; faults = it.faults_text; merged = it.merged; name = it.name }
+
+-- what SureOutputs tells
+abbrev pub sure_channels : SureOutputs → Option Written
+sure_channels it = Some (sure_written it)
 
 -- `create` of SureOutputs: want of memory changes nothing
 abbrev pub SureCreates : List ℕ → Result Unit Refusal → SureOutputs → SureOutputs → Type 0

@@ -29,7 +29,8 @@ pub(crate) fn bytes_under<'a>(files: &'a List<NamedBytes>, name: &str) -> &'a [u
     &[]
 }
 
-/// Copies the bytes from a place on to the front of a buffer, at most so many, and answers how many.
+/// Copies the bytes from a place on to the front of a buffer, at most so many, and answers how
+/// many.
 pub(crate) fn read_at(bytes: &[u8], place: usize, most: usize, buffer: &mut [u8]) -> usize
     ensures count { result ≡ min most (min (length buffer.old) (length bytes.now - place)) }
     ensures copied { buffer.new ≡ take result (drop place bytes.now) ++ drop result buffer.old }

@@ -1,9 +1,9 @@
 //! The calls of `MemInputs`.
 
-ghost use Rattle.std.specs.Prelude.{◌≡◌, ◌≤◌, ℕ, Option, Some, length, IfOk};
+ghost use Rattle.std.specs.Prelude.{◌≡◌, ◌≤◌, ℕ, length, IfOk};
 ghost use Rattle.sdc_base.specs.Counting.{Rose};
 ghost use Rattle.sdc_base.specs.Files.{Begins, Reads};
-ghost use Rattle.sdc_base.specs.MemoryForms.{mem_reading, MemBegins, MemReads};
+ghost use Rattle.sdc_base.specs.MemoryForms.{mem_files, MemBegins, MemReads};
 
 use crate::counting::{contains, raised};
 use crate::files::{bytes_under, has_name, read_at};
@@ -11,13 +11,13 @@ use crate::memory_forms::MemInputs;
 use crate::outside::{Inputs, Refusal};
 
 impl Inputs for MemInputs {
-    ghost told = { λ it. Some (mem_reading it) };
+    ghost told = { mem_files };
 
     ghost faults = { λ it. it.faults };
 
     fn begin(&mut self, name: &str) -> Result<(), Refusal>
         ensures exact { MemBegins name.now result self.old self.new }
-        ensures begins { Begins name.now result (Some (mem_reading self.old)) (Some (mem_reading self.new)) }
+        ensures begins { Begins name.now result (mem_files self.old) (mem_files self.new) }
         ensures faults { self.old.faults ≤ self.new.faults }
         ensures failed { result ≡ Err Refusal.Failed → Rose self.old.faults self.new.faults }
     {
@@ -35,7 +35,8 @@ impl Inputs for MemInputs {
     fn read(&mut self, buffer: &mut [u8]) -> Result<usize, Refusal>
         ensures exact { MemReads buffer.old buffer.new result self.old self.new }
         ensures within { IfOk result (λ count. count ≤ length buffer.old) }
-        ensures reads { Reads (length buffer.old) buffer.new result (Some (mem_reading self.old)) (Some (mem_reading self.new)) }
+        ensures reads { Reads (length buffer.old) buffer.new result
+            (mem_files self.old) (mem_files self.new) }
         ensures faults { self.old.faults ≤ self.new.faults }
         ensures failed { result ≡ Err Refusal.Failed → Rose self.old.faults self.new.faults }
     {

@@ -1,22 +1,22 @@
 //! The calls of `MemOutputs`.
 
-ghost use Rattle.std.specs.Prelude.{◌≡◌, ◌<◌, ◌≤◌, ℕ, Option, Some, length, IfOk};
+ghost use Rattle.std.specs.Prelude.{◌≡◌, ◌<◌, ◌≤◌, ℕ, length, IfOk};
 ghost use Rattle.sdc_base.specs.Counting.{Rose};
 ghost use Rattle.sdc_base.specs.Channels.{Creates, Writes};
-ghost use Rattle.sdc_base.specs.MemoryForms.{mem_written, MemCreates, MemWrites};
+ghost use Rattle.sdc_base.specs.MemoryForms.{mem_channels, MemCreates, MemWrites};
 
 use crate::counting::{contains, raised};
 use crate::memory_forms::MemOutputs;
 use crate::outside::{Channel, Outputs, Refusal};
 
 impl Outputs for MemOutputs {
-    ghost told = { λ it. Some (mem_written it) };
+    ghost told = { mem_channels };
 
     ghost faults = { λ it. it.faults };
 
     fn create(&mut self, name: &str) -> Result<(), Refusal>
         ensures exact { MemCreates name.now result self.old self.new }
-        ensures creates { Creates name.now result (Some (mem_written self.old)) (Some (mem_written self.new)) }
+        ensures creates { Creates name.now result (mem_channels self.old) (mem_channels self.new) }
         ensures faults { self.old.faults ≤ self.new.faults }
         ensures failed { result ≡ Err Refusal.Failed → Rose self.old.faults self.new.faults }
     {
@@ -34,7 +34,8 @@ impl Outputs for MemOutputs {
         ensures exact { MemWrites channel piece.now result self.old self.new }
         ensures within { IfOk result (λ count. count ≤ length piece.now) }
         ensures some { IfOk result (λ count. 0 < length piece.now → 0 < count) }
-        ensures writes { Writes channel piece.now result (Some (mem_written self.old)) (Some (mem_written self.new)) }
+        ensures writes { Writes channel piece.now result
+            (mem_channels self.old) (mem_channels self.new) }
         ensures faults { self.old.faults ≤ self.new.faults }
         ensures failed { result ≡ Err Refusal.Failed → Rose self.old.faults self.new.faults }
     {

@@ -1,4 +1,5 @@
-//! The four forms in memory of the outside: two that fail where they are told to, and two that never fail.
+//! The four forms in memory of the outside: two that fail where they are told to, and two that
+//! never fail.
 
 ghost use Rattle.std.specs.Prelude.{◌<◌};
 
@@ -28,7 +29,8 @@ pub struct MemInputs {
     ghost some: { 0 < most },
 }
 
-/// Files in memory, read by calls that never fail but for want of memory. A missing name is an empty file.
+/// Files in memory, read by calls that never fail but for want of memory. A missing name is an
+/// empty file.
 #[derive(Debug, Drop)]
 pub struct SureInputs {
     /// The files; of several with one name the first counts.
@@ -61,7 +63,8 @@ pub struct MemOutputs {
     ghost some: { 0 < most },
 }
 
-/// Channels in memory, written by calls that take whole pieces and never fail but for want of memory.
+/// Channels in memory, written by calls that take whole pieces and never fail but for want of
+/// memory.
 #[derive(Debug, Drop)]
 pub struct SureOutputs {
     /// What was written to `Report`.

@@ -65,7 +65,8 @@ pub trait Inputs {
     /// buffer with room means the end. A refusal leaves the begun file and its offset.
     fn read(&mut self, buffer: &mut [u8]) -> Result<usize, Refusal>
         ensures within { IfOk result (λ count. count ≤ length buffer.old) }
-        ensures reads { Reads (length buffer.old) buffer.new result (told self.old) (told self.new) }
+        ensures reads { Reads (length buffer.old) buffer.new result
+            (told self.old) (told self.new) }
         ensures faults { faults self.old ≤ faults self.new }
         ensures failed { result ≡ Err Refusal.Failed → Rose (faults self.old) (faults self.new) };
 }

@@ -75,7 +75,8 @@ impl Text {
         Ok(())
     }
 
-    /// Takes another text in place of its own. The one error is want of memory, and changes nothing.
+    /// Takes another text in place of its own. The one error is want of memory, which changes
+    /// nothing.
     pub fn set(&mut self, text: &str) -> Result<(), NoMemory>
         ensures ok { OnOk result (self.new ≡ text.now) }
         ensures err { OnErr result (self.new ≡ self.old) }

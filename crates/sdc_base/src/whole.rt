@@ -51,16 +51,17 @@ impl From<NoMemory> for ReadStop {
     }
 }
 
-/// The bytes of the file of a name, from its start to its end. They are read in pieces, and no piece is
-/// asked for once more than `MOST_BYTES` bytes were read.
+/// The bytes of the file of a name, from its start to its end. They are read in pieces, and no piece
+/// is asked for once more than `MOST_BYTES` bytes were read.
 ///
-/// Errors: `Failed` where the outside failed, `TooLong` where the file has more than `MOST_BYTES` bytes,
-/// and want of memory.
+/// Errors: `Failed` where the outside failed, `TooLong` where the file has more than `MOST_BYTES`
+/// bytes, and want of memory.
 pub fn read_all<I: Inputs>(alloc: Global, inputs: &mut I, name: &str) -> Result<List<u8>, ReadStop>
     ensures whole { ReadsWhole name.now result (I.told inputs.old) (I.told inputs.new) }
     ensures limit { IfOk result (λ bytes. length bytes ≤ MOST_BYTES) }
     ensures faults { I.faults inputs.old ≤ I.faults inputs.new }
-    ensures failed { result ≡ Err ReadStop.Failed → Rose (I.faults inputs.old) (I.faults inputs.new) }
+    ensures failed { result ≡ Err ReadStop.Failed
+        → Rose (I.faults inputs.old) (I.faults inputs.new) }
 {
     let mut buffer = read_buffer(alloc)?;
     inputs.begin(name)?;
@@ -84,7 +85,8 @@ fn read_rest<I: Inputs>(
     ensures rest { ReadsRest result (I.told inputs.old) (I.told inputs.new) }
     ensures limit { IfOk result (λ bytes. length bytes ≤ MOST_BYTES) }
     ensures faults { I.faults inputs.old ≤ I.faults inputs.new }
-    ensures failed { result ≡ Err ReadStop.Failed → Rose (I.faults inputs.old) (I.faults inputs.new) }
+    ensures failed { result ≡ Err ReadStop.Failed
+        → Rose (I.faults inputs.old) (I.faults inputs.new) }
 {
     let mut bytes = List::new(alloc);
     loop {
@@ -99,12 +101,13 @@ fn read_rest<I: Inputs>(
     }
 }
 
-/// Adds all bytes of a text to the end of a channel. After a refusal a front of them stands there, which
-/// may be all of them or none.
+/// Adds all bytes of a text to the end of a channel. After a refusal a front of them stands there,
+/// which may be none. Takes no memory itself.
 pub fn write_all<O: Outputs>(outputs: &mut O, channel: Channel, bytes: &[u8]) -> Result<(), Refusal>
     ensures writes { WritesAll channel bytes.now result (O.told outputs.old) (O.told outputs.new) }
     ensures faults { O.faults outputs.old ≤ O.faults outputs.new }
-    ensures failed { result ≡ Err Refusal.Failed → Rose (O.faults outputs.old) (O.faults outputs.new) }
+    ensures failed { result ≡ Err Refusal.Failed
+        → Rose (O.faults outputs.old) (O.faults outputs.new) }
 {
     let mut done = 0;
     while done < bytes.len() {
