@@ -15,6 +15,8 @@ mod mem_outputs;
 mod memory;
 mod memory_forms;
 mod outside;
+#[cfg(test)]
+mod outside_tests;
 mod sure_inputs;
 mod sure_outputs;
 mod texts;
