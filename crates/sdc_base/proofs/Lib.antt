@@ -3,3 +3,5 @@ pub mod NearestFacts
 pub mod PlaceFacts
 pub mod ReadFacts
 pub mod TimeFacts
+pub mod WholeReads
+pub mod WholeWrites
