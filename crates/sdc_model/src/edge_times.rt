@@ -1,6 +1,7 @@
-//! How two clock edges lie to each other in time.
+//! Clock edges in time, and how two of them lie to each other.
 
-use sdc_base::{Duplicate, NoMemory};
+use crate::pins::Edge;
+use sdc_base::{Duplicate, NoMemory, Text};
 use std::alloc::Global;
 
 /// The setup and the hold relation of a launch edge and a capture edge, in whole femtoseconds.
@@ -20,4 +21,14 @@ impl Duplicate for Relation {
     fn copy(&self, _alloc: Global) -> Result<Relation, NoMemory> {
         Ok(*self)
     }
+}
+
+/// An edge of a clock in time: the clock's name, which edge it is, when it comes first, and the clock's period,
+/// in whole femtoseconds.
+#[derive(Debug, Drop, PartialEq, Eq, PartialOrd, Ord)]
+pub struct TimedEdge {
+    pub clock: Text,
+    pub edge: Edge,
+    pub time: i64,
+    pub period: i64,
 }

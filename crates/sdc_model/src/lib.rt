@@ -18,7 +18,7 @@ pub use answers::Status;
 pub use clocks::{Clock, Early, Form, Latency, Pair, Shape, Wave};
 pub use commands::{Command, Next, Part, Word};
 pub use constraints::{CaseSet, Disable, ExCommand, Exception, IoDelay, Points, Through};
-pub use edge_times::Relation;
+pub use edge_times::{Relation, TimedEdge};
 pub use kinds::{Fault, Kind, SdcKind, TclKind};
 pub use modes::Mode;
 pub use objects::{Kept, Note, NoteKind, Object, Value};
