@@ -6,3 +6,5 @@ pub mod ReadBackFacts
 pub mod ReadFacts
 pub mod SpellingFacts
 pub mod TimeFacts
+pub mod WholeReads
+pub mod WholeWrites

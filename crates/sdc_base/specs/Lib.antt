@@ -2,7 +2,8 @@ pub mod Channels
 pub mod Counting
 pub mod Files
 pub mod Gives
+pub mod MemoryForms
 pub mod Number
-pub mod Time
-pub mod NumberText
 pub mod NumberLaws
+pub mod NumberText
+pub mod Time

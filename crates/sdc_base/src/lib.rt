@@ -6,14 +6,25 @@
 //! memory and whole reads and writes over them. It leaves what a file holds to the crates above.
 #![tactic(auto)]
 
+mod counting;
 mod duplicate;
+mod files;
 mod fixed;
 mod lists;
+mod mem_inputs;
+mod mem_outputs;
 mod memory;
+mod memory_forms;
 mod number_laws;
+#[cfg(test)]
+mod number_tests;
 mod number_text;
 mod outside;
+#[cfg(test)]
+mod outside_tests;
 mod rounding;
+mod sure_inputs;
+mod sure_outputs;
 mod texts;
 mod times;
 mod whole;
@@ -22,12 +33,9 @@ pub use duplicate::Duplicate;
 pub use fixed::{Fixed, NumberError};
 pub use lists::{Bits, List};
 pub use memory::{At, NoMemory, Stop};
+pub use memory_forms::{MemInputs, MemOutputs, SureInputs, SureOutputs};
 pub use number_laws::{reading_is_exact, time_texts_read_back, times_are_nearest};
 pub use outside::{Channel, Inputs, NamedBytes, Outputs, Refusal};
 pub use texts::Text;
 pub use times::time_text;
-
-#[cfg(test)]
-mod number_tests;
-
-pub use whole::{MOST_BYTES, ReadStop};
+pub use whole::{MOST_BYTES, ReadStop, read_all, write_all};
