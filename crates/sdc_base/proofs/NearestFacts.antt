@@ -1,8 +1,7 @@
 -- What `nearest` gives, what a common factor does to it, and the bounds of powers of ten.
-use Rattle.std.proofs.Common.{◌≡◌, ℕ, ◌+◌, ◌-◌, ◌*◌, ◌/◌, ◌^◌, ◌<◌, ◌≤◌, min, refl, sym, ap, ◌∙◌, arith, lit<, lit≤}
+use Rattle.std.proofs.Common.{◌≡◌, ℕ, ◌+◌, ◌-◌, ◌*◌, ◌/◌, ◌^◌, ◌<◌, ◌≤◌, min, refl, sym, ap, ◌∙◌, arith, lit<, lit≤, Ok, Err, false, nat_lt, lt-ltb}
 use Rattle.std.proofs.Math.Nat.{pow-le-pow_right, mul-div-mul_right, div-mul-le_self, lt-div-mul-add, div-eq_of_lt-le, div-eq_of_lt, mul_assoc, one-le-pow}
 use Rattle.std.proofs.lemmas.Nat.{pow-add}
-use Rattle.std.proofs.Common.{Ok, Err, false, nat_lt, lt-ltb}
 use Rattle.std.proofs.lemmas.Bool.Decides.{nat_tests}
 use Rattle.sdc_base.specs.Number.{nearest, IsNearest, in_range}
 use Rattle.sdc_base.specs.declared.fixed.NumberError.TheVariants.{NumberRange}

@@ -1,7 +1,6 @@
 -- The decimals of a time: how a loop writes them, and what number they are.
-use Rattle.std.proofs.Common.{◌≡◌, ℕ, zero, suc, ◌+◌, ◌-◌, ◌*◌, ◌/◌, ◌%◌, ◌<◌, false, nat_eq, List, [], ◌∷◌, ◌++◌, refl, sym, ap, ◌∙◌, arith, append_assoc}
+use Rattle.std.proofs.Common.{◌≡◌, ℕ, zero, suc, ◌+◌, ◌-◌, ◌*◌, ◌/◌, ◌%◌, ◌<◌, false, nat_eq, List, [], ◌∷◌, ◌++◌, refl, sym, ap, ◌∙◌, arith, append_assoc, length, lit≤, true, ◌≤◌, ◌^◌, ℤ}
 use Rattle.std.proofs.lemmas.List.{append-nil}
-use Rattle.std.proofs.Common.{length, lit≤, true, ◌≤◌, ◌^◌}
 use Rattle.std.proofs.Math.Nat.{mod-eq_of_lt, pow-succ', mul_assoc, div-add-mod'}
 use Rattle.std.proofs.lemmas.Nat.{div_below, mod_below, mul-mod_first}
 use Rattle.std.specs.Char.{is_ascii_digit, digit_value}
@@ -9,7 +8,6 @@ use Rattle.std.specs.Str.{all_ascii_digits}
 use Rattle.std.specs.Str.Parse.{digits_value_after}
 use Rattle.sdc_base.proofs.DigitFacts.{all_digits-cons}
 use Rattle.std.proofs.lemmas.Bool.Decides.{nat_tests}
-use Rattle.std.proofs.Common.{ℤ}
 use Rattle.std.specs.Fmt.{decimal}
 use Rattle.std.specs.Int.{is_negative}
 use Rattle.std.specs.Int.RustNames.{unsigned_abs}
