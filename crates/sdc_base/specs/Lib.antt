@@ -2,4 +2,5 @@ pub mod Channels
 pub mod Counting
 pub mod Files
 pub mod Gives
-pub mod MemoryForms
+pub mod MemoryInputs
+pub mod MemoryOutputs
