@@ -4,3 +4,6 @@ pub mod Files
 pub mod Gives
 pub mod MemoryInputs
 pub mod MemoryOutputs
+pub mod Number
+pub mod NumberText
+pub mod Time

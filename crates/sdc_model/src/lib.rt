@@ -3,3 +3,23 @@
 //! A reader who believes the files of `specs/` believes the tool: each defines one subject, in the field's
 //! words. It gives the layers above data with public fields and `Duplicate`, and no behaviour.
 #![tactic(auto)]
+
+mod answers;
+mod clocks;
+mod commands;
+mod constraints;
+mod edge_times;
+mod kinds;
+mod modes;
+mod objects;
+mod pins;
+
+pub use answers::Status;
+pub use clocks::{Clock, Early, Form, Latency, Pair, Shape, Wave};
+pub use commands::{Command, Next, Part, Word};
+pub use constraints::{CaseSet, Disable, ExCommand, Exception, IoDelay, Points, Through};
+pub use edge_times::{Relation, TimedEdge};
+pub use kinds::{Fault, Kind, SdcKind, TclKind};
+pub use modes::Mode;
+pub use objects::{Kept, Note, NoteKind, Object, Value};
+pub use pins::{ClockEdge, Edge, Node, Pin, Side};

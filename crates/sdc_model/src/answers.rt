@@ -1,0 +1,20 @@
+//! What a run of the tool answers.
+
+use crate::kinds::Fault;
+
+/// The answer of a run. Its exit number is the tool's exit status.
+#[derive(Clone, Copy, Debug, PartialEq, Eq, PartialOrd, Ord)]
+pub enum Status {
+    /// The work is done.
+    Done,
+    /// The words are no command line; no file was read.
+    Usage,
+    /// A source has this first fault.
+    Source(Fault),
+    /// A file could not be read; the place of its word.
+    ReadFault(u32),
+    /// The outputs could not be written.
+    WriteFault,
+    /// Memory ran out.
+    NoMemory,
+}

@@ -1,0 +1,145 @@
+//! What a mode says of pins, ports and paths (SDC 2.1), all times in whole femtoseconds.
+
+use crate::pins::{ClockEdge, Edge, Pin, Side};
+use sdc_base::{Duplicate, List, NoMemory};
+use std::alloc::Global;
+
+/// A pin that is set to a value (`set_case_analysis`).
+#[derive(Clone, Copy, Debug, PartialEq, Eq, PartialOrd, Ord)]
+pub struct CaseSet {
+    pub line: u32,
+    pub pin: Pin,
+    pub value: bool,
+}
+
+impl Duplicate for CaseSet {
+    fn copy(&self, _alloc: Global) -> Result<CaseSet, NoMemory> {
+        Ok(*self)
+    }
+}
+
+/// A pin, or a pair of pins of one cell, whose arcs are disabled (`set_disable_timing`).
+#[derive(Clone, Copy, Debug, PartialEq, Eq, PartialOrd, Ord)]
+pub enum Disable {
+    Pin { line: u32, pin: Pin },
+    Between { line: u32, from: Pin, to: Pin },
+}
+
+impl Duplicate for Disable {
+    fn copy(&self, _alloc: Global) -> Result<Disable, NoMemory> {
+        Ok(*self)
+    }
+}
+
+/// The delays outside a port to one clock edge, each where it is set (`set_input_delay`, `set_output_delay`).
+#[derive(Clone, Copy, Debug, PartialEq, Eq, PartialOrd, Ord)]
+pub struct IoDelay {
+    pub port: Pin,
+    pub clock: ClockEdge,
+    pub max_rise: Option<i64>,
+    pub max_fall: Option<i64>,
+    pub min_rise: Option<i64>,
+    pub min_fall: Option<i64>,
+}
+
+impl Duplicate for IoDelay {
+    fn copy(&self, _alloc: Global) -> Result<IoDelay, NoMemory> {
+        Ok(*self)
+    }
+}
+
+/// What an exception does to the paths that it matches.
+#[derive(Clone, Copy, Debug, PartialEq, Eq, PartialOrd, Ord)]
+pub enum ExCommand {
+    FalsePath,
+    Delay,
+    Multicycle,
+}
+
+impl Duplicate for ExCommand {
+    fn copy(&self, _alloc: Global) -> Result<ExCommand, NoMemory> {
+        Ok(*self)
+    }
+}
+
+/// Where a path begins or ends: pins, with a transition, or clocks, with an edge.
+#[derive(Debug, Drop, PartialEq, Eq, PartialOrd, Ord)]
+pub enum Points {
+    Pins(Option<Edge>, List<Pin>),
+    Clocks(Option<Edge>, List<u32>),
+}
+
+impl Duplicate for Points {
+    fn copy(&self, alloc: Global) -> Result<Points, NoMemory> {
+        match self {
+            Points::Pins(edge, pins) => {
+                let edge = edge.copy(alloc)?;
+                let pins = pins.copy(alloc)?;
+                Ok(Points::Pins(edge, pins))
+            }
+            Points::Clocks(edge, clocks) => {
+                let edge = edge.copy(alloc)?;
+                let clocks = clocks.copy(alloc)?;
+                Ok(Points::Clocks(edge, clocks))
+            }
+        }
+    }
+}
+
+/// Pins of which a path meets one, with a transition where one is given.
+#[derive(Debug, Drop, PartialEq, Eq, PartialOrd, Ord)]
+pub struct Through {
+    pub edge: Option<Edge>,
+    pub pins: List<Pin>,
+}
+
+impl Duplicate for Through {
+    fn copy(&self, alloc: Global) -> Result<Through, NoMemory> {
+        let edge = self.edge.copy(alloc)?;
+        let pins = self.pins.copy(alloc)?;
+        Ok(Through { edge, pins })
+    }
+}
+
+/// An exception of one side, as splitting gives it.
+#[derive(Debug, Drop, PartialEq, Eq, PartialOrd, Ord)]
+pub struct Exception {
+    /// The line of the command that it comes from.
+    pub line: u32,
+    pub command: ExCommand,
+    pub side: Side,
+    /// Femtoseconds of a delay, the number of a multicycle, 0 of a false path.
+    pub value: i64,
+    /// Whether a multicycle counts periods of the launch clock.
+    pub by_launch: bool,
+    /// The transition of the last node, where one is given.
+    pub last: Option<Edge>,
+    pub from: Option<Points>,
+    pub through: List<Through>,
+    pub to: Option<Points>,
+}
+
+impl Duplicate for Exception {
+    fn copy(&self, alloc: Global) -> Result<Exception, NoMemory> {
+        let line = self.line.copy(alloc)?;
+        let command = self.command.copy(alloc)?;
+        let side = self.side.copy(alloc)?;
+        let value = self.value.copy(alloc)?;
+        let by_launch = self.by_launch.copy(alloc)?;
+        let last = self.last.copy(alloc)?;
+        let from = self.from.copy(alloc)?;
+        let through = self.through.copy(alloc)?;
+        let to = self.to.copy(alloc)?;
+        Ok(Exception {
+            line,
+            command,
+            side,
+            value,
+            by_launch,
+            last,
+            from,
+            through,
+            to,
+        })
+    }
+}

@@ -1,0 +1,44 @@
+//! A mode: all that one constraint file says.
+
+use crate::clocks::{Clock, Pair};
+use crate::constraints::{CaseSet, Disable, Exception, IoDelay};
+use crate::objects::{Kept, Note};
+use sdc_base::{Duplicate, List, NoMemory};
+use std::alloc::Global;
+
+/// A mode. Clocks, exceptions, kept commands and notes stand in order of execution; exclusive pairs in order,
+/// each once; cases by pin; disabled pins by pin, then pairs; delays by port, clock and edge.
+#[derive(Debug, Drop, PartialEq, Eq, PartialOrd, Ord)]
+pub struct Mode {
+    pub clocks: List<Clock>,
+    pub exclusive: List<Pair>,
+    pub cases: List<CaseSet>,
+    pub disabled: List<Disable>,
+    pub delays: List<IoDelay>,
+    pub exceptions: List<Exception>,
+    pub kept: List<Kept>,
+    pub notes: List<Note>,
+}
+
+impl Duplicate for Mode {
+    fn copy(&self, alloc: Global) -> Result<Mode, NoMemory> {
+        let clocks = self.clocks.copy(alloc)?;
+        let exclusive = self.exclusive.copy(alloc)?;
+        let cases = self.cases.copy(alloc)?;
+        let disabled = self.disabled.copy(alloc)?;
+        let delays = self.delays.copy(alloc)?;
+        let exceptions = self.exceptions.copy(alloc)?;
+        let kept = self.kept.copy(alloc)?;
+        let notes = self.notes.copy(alloc)?;
+        Ok(Mode {
+            clocks,
+            exclusive,
+            cases,
+            disabled,
+            delays,
+            exceptions,
+            kept,
+            notes,
+        })
+    }
+}

@@ -1,0 +1,5 @@
+//! Commands of a script, split into words (Tcl).
+//!
+//! It gives the layer above `next_command` and `split`, by the grammar of `sdc_model`. It leaves to others
+//! what a word's variables and scripts stand for.
+#![tactic(auto)]
