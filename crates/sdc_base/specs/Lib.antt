@@ -2,7 +2,8 @@ pub mod Channels
 pub mod Counting
 pub mod Files
 pub mod Gives
-pub mod MemoryForms
+pub mod MemoryInputs
+pub mod MemoryOutputs
 pub mod Number
 pub mod NumberLaws
 pub mod NumberText

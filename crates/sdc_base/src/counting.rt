@@ -1,8 +1,7 @@
 //! Counts of calls and of faults, and the calls that are to fail.
 
 ghost use Rattle.std.specs.Prelude.{◌≡◌};
-ghost use Rattle.sdc_base.specs.Counting.{next_count};
-ghost use Rattle.sdc_base.specs.MemoryForms.{is_listed};
+ghost use Rattle.sdc_base.specs.Counting.{is_listed, next_count};
 
 use crate::lists::List;
 

@@ -2,7 +2,7 @@
 
 ghost use Rattle.std.specs.Prelude.{◌≡◌, ◌-◌, ◌++◌, length, min, take, drop};
 ghost use Rattle.sdc_base.specs.Files.{bytes_of};
-ghost use Rattle.sdc_base.specs.MemoryForms.{has_file};
+ghost use Rattle.sdc_base.specs.MemoryInputs.{has_file};
 
 use crate::lists::List;
 use crate::outside::NamedBytes;

@@ -3,7 +3,7 @@
 ghost use Rattle.std.specs.Prelude.{◌≡◌, ◌≤◌, ℕ, length, IfOk};
 ghost use Rattle.sdc_base.specs.Counting.{Rose};
 ghost use Rattle.sdc_base.specs.Files.{Begins, Reads};
-ghost use Rattle.sdc_base.specs.MemoryForms.{mem_files, MemBegins, MemReads};
+ghost use Rattle.sdc_base.specs.MemoryInputs.{mem_files, MemBegins, MemReads};
 
 use crate::counting::{contains, raised};
 use crate::files::{bytes_under, has_name, read_at};

@@ -3,7 +3,7 @@
 ghost use Rattle.std.specs.Prelude.{◌≡◌, ◌<◌, ◌≤◌, ℕ, length, IfOk};
 ghost use Rattle.sdc_base.specs.Counting.{Rose};
 ghost use Rattle.sdc_base.specs.Channels.{Creates, Writes};
-ghost use Rattle.sdc_base.specs.MemoryForms.{mem_channels, MemCreates, MemWrites};
+ghost use Rattle.sdc_base.specs.MemoryOutputs.{mem_channels, MemCreates, MemWrites};
 
 use crate::counting::{contains, raised};
 use crate::memory_forms::MemOutputs;

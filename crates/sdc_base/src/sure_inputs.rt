@@ -1,9 +1,9 @@
 //! The calls of `SureInputs`.
 
 ghost use Rattle.std.specs.Prelude.{◌≡◌, ◌≤◌, ℕ, length, IfOk};
-ghost use Rattle.sdc_base.specs.Counting.{Rose};
+ghost use Rattle.sdc_base.specs.Counting.{Rose, no_faults};
 ghost use Rattle.sdc_base.specs.Files.{Begins, Reads};
-ghost use Rattle.sdc_base.specs.MemoryForms.{no_faults, sure_files, SureBegins, SureReads};
+ghost use Rattle.sdc_base.specs.MemoryInputs.{sure_files, SureBegins, SureReads};
 
 use crate::files::{bytes_under, read_at};
 use crate::memory_forms::SureInputs;

@@ -1,9 +1,9 @@
 //! The calls of `SureOutputs`.
 
 ghost use Rattle.std.specs.Prelude.{◌≡◌, ◌<◌, ◌≤◌, ℕ, length, IfOk};
-ghost use Rattle.sdc_base.specs.Counting.{Rose};
+ghost use Rattle.sdc_base.specs.Counting.{Rose, no_faults};
 ghost use Rattle.sdc_base.specs.Channels.{Creates, Writes};
-ghost use Rattle.sdc_base.specs.MemoryForms.{no_faults, sure_channels, SureCreates, SureWrites};
+ghost use Rattle.sdc_base.specs.MemoryOutputs.{sure_channels, SureCreates, SureWrites};
 
 use crate::memory_forms::SureOutputs;
 use crate::outside::{Channel, Outputs, Refusal};
