@@ -53,10 +53,11 @@ Reads room buffer answer (Some before) None = ⊥
 Reads room buffer (Ok count) (Some before) (Some after) = ReadsNext room buffer count before after
 Reads room buffer (Err _) (Some before) (Some after) = after ≡ before
 
--- the files stay; the file of the name is begun, or all is as it was
-pub record Opens (name : List ℕ) (before after : Reading) : Type 0 where
-  pub files : after.files ≡ before.files
-  pub begun : (after.begun ≡ Some name) ⊎ (after ≡ before)
+-- the file of the name is begun, unless the outside or memory stopped the call: then it may be as it was
+abbrev pub BeginsFor : List ℕ → Result (List ℕ) ReadStop → Reading → Reading → Type 0
+BeginsFor name (Ok _) before after = after.begun ≡ Some name
+BeginsFor name (Err stop.TooLong) before after = after.begun ≡ Some name
+BeginsFor name (Err _) before after = (after.begun ≡ Some name) ⊎ (after ≡ before)
 
 -- what a whole read answers of the bytes of a file: all of them, or that they are more than the limit
 abbrev pub AnswersBytes : List ℕ → Result (List ℕ) ReadStop → Type 0
@@ -77,9 +78,10 @@ abbrev pub stop_of : Refusal → ReadStop
 stop_of refusal.Failed = stop.Failed
 stop_of refusal.NoMemory = stop.NoMemory
 
--- `read_all`: the file of the name, from its start to its end
+-- `read_all`: the file of the name, from its start to its end; the files stay
 abbrev pub ReadsWhole : List ℕ → Result (List ℕ) ReadStop → Option Reading → Option Reading → Type 0
 ReadsWhole name answer None None = Unit {0}
 ReadsWhole name answer None (Some after) = ⊥
 ReadsWhole name answer (Some before) None = ⊥
-ReadsWhole name answer (Some before) (Some after) = Opens name before after × AnswersBytes (bytes_of before.files name) answer
+ReadsWhole name answer (Some before) (Some after) =
+    (after.files ≡ before.files) × BeginsFor name answer before after × AnswersBytes (bytes_of before.files name) answer

@@ -69,6 +69,53 @@ FailsReading most files place count begun (name ∷ names) failed after =
     ⊎ ((mode : Mode) × SaysFile most count (bytes_of files name) (Ok mode)
     × FailsReading most files (suc place) (count + length mode.clocks) (Some name) names failed after)
 
+-- What reading the file of a name at a place of the words answers, behind so many clocks: its mode, or a fault of it.
+-- The files stay, and the file is begun, or else, where its read failed, what was begun before.
+abbrev pub ReadsMode : ℕ → ℕ → ℕ → List ℕ → Result Mode Status → Reading → Reading → Type 0
+ReadsMode most count place name (Ok mode) before after =
+    (after.files ≡ before.files) × (after.begun ≡ Some name) × SaysFile most count (bytes_of before.files name) (Ok mode)
+ReadsMode most count place name (Err (status.Source fault)) before after =
+    (after.files ≡ before.files) × (fault.file ≡ place) × SaysFile most count (bytes_of before.files name) (Err fault.kind)
+ReadsMode most count place name (Err (status.ReadFault failed)) before after =
+    (after.files ≡ before.files) × (failed ≡ place) × ((after.begun ≡ Some name) ⊎ (after.begun ≡ before.begun))
+ReadsMode most count place name (Err _) before after = after.files ≡ before.files
+
+-- What reading the files of these names in turn answers: their modes, or the first fault. The files stay.
+abbrev pub ReadsModes : ℕ → List (List ℕ) → Result (List Mode) Status → Reading → Reading → Type 0
+ReadsModes most names (Ok modes) before after =
+    (after.files ≡ before.files) × SayModes most before.files 1 0 names (Ok modes)
+ReadsModes most names (Err (status.Source fault)) before after =
+    (after.files ≡ before.files) × SayModes most before.files 1 0 names (Err fault)
+ReadsModes most names (Err (status.ReadFault place)) before after =
+    (after.files ≡ before.files) × FailsReading most before.files 1 0 before.begun names place after.begun
+ReadsModes most names (Err _) before after = after.files ≡ before.files
+
+-- a fact about what an object tells before and after a call, where it tells it; whether it does never changes
+abbrev pub OnTold : {Told : Type 0} → (Told → Told → Type 0) → Option Told → Option Told → Type 0
+OnTold Fact None None = Unit {0}
+OnTold Fact None (Some after) = ⊥
+OnTold Fact (Some before) None = ⊥
+OnTold Fact (Some before) (Some after) = Fact before after
+
+-- a read stops a run for a fault of a source, for a fault of the inputs, whose count rose, or for want of memory
+abbrev pub StopsReading : List (List ℕ) → ℕ → ℕ → Status → Type 0
+StopsReading names before after (status.Source fault) = Unit {0}
+StopsReading names before after (status.ReadFault place) = Rose before after × (1 ≤ place) × (place ≤ length names)
+StopsReading names before after status.NoMemory = Unit {0}
+StopsReading names before after _ = ⊥
+
+-- the read of the file at a place of the words stops a run for one of these
+abbrev pub StopsAt : ℕ → ℕ → ℕ → Status → Type 0
+StopsAt place before after (status.Source fault) = Unit {0}
+StopsAt place before after (status.ReadFault failed) = Rose before after × (failed ≡ place)
+StopsAt place before after status.NoMemory = Unit {0}
+StopsAt place before after _ = ⊥
+
+-- what computing the report of `edges` answers and leaves
+abbrev pub ComputesEdges : List (List ℕ) → Result (List ℕ) Status → Reading → Reading → Type 0
+ComputesEdges names (Ok text) before after = (after.files ≡ before.files) × IsEdgesText (Some before) (Some names) text
+ComputesEdges names (Err answer) before after = ReadsModes most_edges_clocks names (Err answer) before after
+
 -- what a run of `edges` leaves in the inputs
 abbrev pub LeavesReading : Option (List (List ℕ)) → Status → Reading → Reading → Type 0
 LeavesReading None answer before after = after ≡ before
@@ -77,13 +124,6 @@ LeavesReading (Some names) (status.ReadFault place) before after =
     × FailsReading most_edges_clocks before.files 1 0 before.begun names place after.begun
 LeavesReading (Some names) _ before after = after.files ≡ before.files
 
--- the same, where the inputs tell it; whether they do never changes
-abbrev pub LeavesInputs : Option (List (List ℕ)) → Status → Option Reading → Option Reading → Type 0
-LeavesInputs files answer None None = Unit {0}
-LeavesInputs files answer None (Some after) = ⊥
-LeavesInputs files answer (Some before) None = ⊥
-LeavesInputs files answer (Some before) (Some after) = LeavesReading files answer before after
-
 -- what a run of `edges` leaves in the outputs: nothing but the report, or a front of it, was appended to Report
 abbrev pub LeavesWritten : (List ℕ → Type 0) → Status → Written → Written → Type 0
 LeavesWritten IsText status.Done before after = (text : List ℕ) × IsText text × (after ≡ appended Report text before)
@@ -91,10 +131,3 @@ LeavesWritten IsText status.WriteFault before after = (text : List ℕ) × IsTex
 LeavesWritten IsText status.NoMemory before after =
     (after ≡ before) ⊎ ((text : List ℕ) × IsText text × AppendsFront Report text before after)
 LeavesWritten IsText _ before after = after ≡ before
-
--- the same, where the outputs tell it; whether they do never changes
-abbrev pub LeavesOutputs : (List ℕ → Type 0) → Status → Option Written → Option Written → Type 0
-LeavesOutputs IsText answer None None = Unit {0}
-LeavesOutputs IsText answer None (Some after) = ⊥
-LeavesOutputs IsText answer (Some before) None = ⊥
-LeavesOutputs IsText answer (Some before) (Some after) = LeavesWritten IsText answer before after

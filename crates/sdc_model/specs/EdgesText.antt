@@ -10,7 +10,7 @@ use Rattle.sdc_model.specs.declared.pins.Edge.TheVariants.{Rise, Fall}
 use Rattle.sdc_model.specs.declared.modes.Mode.{Mode}
 use Rattle.sdc_model.specs.declared.edge_times.Relation.{Relation}
 use Rattle.sdc_model.specs.declared.edge_times.TimedEdge.{TimedEdge}
-use Rattle.sdc_model.specs.Relation.{IsRelation}
+use Rattle.sdc_model.specs.Relation.{IsEdgeOf, IsRelation}
 
 -- the two edges of a clock with a waveform of its own
 abbrev pub edges_of : List ℕ → Form → List TimedEdge
@@ -24,6 +24,27 @@ abbrev pub clock_edges : List Clock → List TimedEdge
 clock_edges [] = []
 clock_edges (clock ∷ clocks) = edges_of clock.name clock.form ++ clock_edges clocks
 
+-- an edge whose time and period have relations
+abbrev pub IsTimed : TimedEdge → Type 0
+IsTimed edge = IsEdgeOf edge.time edge.period
+
+abbrev pub AreTimed : List TimedEdge → Type 0
+AreTimed [] = Unit {0}
+AreTimed (edge ∷ edges) = IsTimed edge × AreTimed edges
+
+-- a clock, and clocks, whose edges have relations
+abbrev pub HasTimes : Clock → Type 0
+HasTimes clock = AreTimed (edges_of clock.name clock.form)
+
+abbrev pub HaveTimes : List Clock → Type 0
+HaveTimes [] = Unit {0}
+HaveTimes (clock ∷ clocks) = HasTimes clock × HaveTimes clocks
+
+-- modes whose clocks' edges have relations
+abbrev pub ModesHaveTimes : List Mode → Type 0
+ModesHaveTimes [] = Unit {0}
+ModesHaveTimes (mode ∷ modes) = HaveTimes mode.clocks × ModesHaveTimes modes
+
 abbrev pub edge_word : Edge → List ℕ
 edge_word Rise = codes "rise"
 edge_word Fall = codes "fall"
@@ -36,12 +57,19 @@ edge_text e = e.clock ++ (codes " " ++ edge_word e.edge)
 abbrev pub nanoseconds_text : ℤ → List ℕ
 nanoseconds_text time = time_text_of time (pos 1000000)
 
+-- two edges, with an arrow between them
+abbrev pub edges_text : TimedEdge → TimedEdge → List ℕ
+edges_text launch capture = edge_text launch ++ (codes " -> " ++ edge_text capture)
+
+-- a relation, its times in nanoseconds
+abbrev pub relation_text : Relation → List ℕ
+relation_text relation =
+    codes " setup " ++ (nanoseconds_text relation.setup ++ (codes " hold " ++ nanoseconds_text relation.hold))
+
 -- the line of two edges and their relation
 abbrev pub edge_line : List ℕ → TimedEdge → TimedEdge → Relation → List ℕ
 edge_line file launch capture relation =
-    file ++ (codes ": " ++ (edge_text launch ++ (codes " -> " ++ (edge_text capture
-    ++ (codes " setup " ++ (nanoseconds_text relation.setup ++ (codes " hold " ++ (nanoseconds_text relation.hold
-    ++ codes "\n"))))))))
+    file ++ (codes ": " ++ (edges_text launch capture ++ (relation_text relation ++ codes "\n")))
 
 -- the lines of one launch edge
 abbrev pub AreLinesFrom : List ℕ → TimedEdge → List TimedEdge → List ℕ → Type 0
@@ -56,6 +84,10 @@ AreLines file [] captures text = text ≡ []
 AreLines file (launch ∷ launches) captures text =
     (lines : List ℕ) × (rest : List ℕ) × AreLinesFrom file launch captures lines × (text ≡ lines ++ rest)
     × AreLines file launches captures rest
+
+-- a text with this fact stands behind the old one
+abbrev pub Appends : (List ℕ → Type 0) → List ℕ → List ℕ → Type 0
+Appends IsText old new = (text : List ℕ) × IsText text × (new ≡ old ++ text)
 
 -- the report of one file
 abbrev pub IsReport : List ℕ → List Clock → List ℕ → Type 0

@@ -1,6 +1,10 @@
 //! What a run of the tool answers.
 
+ghost use Rattle.std.specs.Prelude.{◌≡◌};
+ghost use Rattle.sdc_model.specs.declared.answers.Status.TheVariants as status;
+
 use crate::kinds::Fault;
+use sdc_base::NoMemory;
 
 /// The answer of a run. Its exit number is the tool's exit status.
 #[derive(Clone, Copy, Debug, PartialEq, Eq, PartialOrd, Ord)]
@@ -17,4 +21,12 @@ pub enum Status {
     WriteFault,
     /// Memory ran out.
     NoMemory,
+}
+
+impl From<NoMemory> for Status {
+    ghost from_gives = { λ _ answer. answer ≡ status.NoMemory };
+
+    fn from(_error: NoMemory) -> Status {
+        Status::NoMemory
+    }
 }
