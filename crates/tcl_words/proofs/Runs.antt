@@ -1,12 +1,10 @@
 -- How a run of bytes that pass a test grows, and where it stops.
-use Rattle.std.proofs.Common.{◌≡◌, ◌<◌, ◌≤◌, ◌+◌, ◌++◌, ◌&&◌, ◌==◌, if◌then◌else◌, ℕ, Bool, true, false, not, min, List, [], ◌∷◌, drop, length, get_or, refl, sym, ap, ◌∙◌, arith}
-use Rattle.std.specs.List.{list_all}
+use Rattle.std.proofs.Common.{◌≡◌, ◌<◌, ◌≤◌, ◌+◌, ◌++◌, ◌==◌, if◌then◌else◌, ℕ, Bool, true, false, not, min, List, [], ◌∷◌, drop, length, get_or, refl, sym, ap, ◌∙◌, arith}
 use Rattle.std.proofs.lemmas.List.{drop_more, drop_all, append_assoc}
 use Rattle.std.proofs.lemmas.List.Folds.{list_all-append}
 use Rattle.sdc_model.specs.Bytes.{line_after, is_separator, last_line}
 use Rattle.sdc_model.specs.Commands.{AllAre, Begins}
 use Rattle.tcl_words.specs.Spans.{Passes, PassesTo}
-use Rattle.tcl_words.specs.declared.scan.Place.{Place}
 
 pub all_append : (test : ℕ → Bool) (xs ys : List ℕ) → AllAre test xs → AllAre test ys → AllAre test (xs ++ ys)
 all_append test xs ys p q = rw (list_all-append test xs ys, p, q) refl

@@ -4,4 +4,6 @@
 //! what a word's variables and scripts stand for.
 #![tactic(auto)]
 
+mod reader;
 mod scan;
+mod spelled;

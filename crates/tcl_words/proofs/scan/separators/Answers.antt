@@ -1,4 +1,4 @@
-use Rattle.std.proofs.Common.{rules, arith, sym, ◌∙◌}
+use Rattle.std.proofs.Common.{rules, sym, ◌∙◌}
 use Rattle.tcl_words.proofs.Runs.{passes_to_none, passes_to_more}
 use Rattle.tcl_words.proofs.scan.separators.Goals as goal
 use Rattle.tcl_words.proofs.scan.separators.Goals.{then-bytes-at-eq10, else-bytes-at-eq10}
