@@ -1,5 +1,6 @@
 -- How the kinds of bytes exclude one another, and which are ASCII.
 use Rattle.std.proofs.Common.{◌≡◌, ◌<◌, ℕ, true, false, refl, arith}
+use Rattle.std.proofs.lemmas.Bool.{or_parts}
 use Rattle.std.proofs.lemmas.Bool.Decides.{nat_tests}
 use Rattle.sdc_model.specs.Bytes.{is_blank, is_end, is_plain, is_separator}
 
@@ -22,3 +23,12 @@ separator_is b p q = rw (p, q) refl
 
 pub end_separates : (b : ℕ) → is_end b ≡ true → is_separator b ≡ true
 end_separates b e = rw e (grind (arith, nat_tests))
+
+pub separator_not_plain : (b : ℕ) → is_separator b ≡ true → is_plain b ≡ false
+separator_not_plain b p = grind (arith, nat_tests)
+
+pub end_not_blank : (b : ℕ) → is_end b ≡ true → is_blank b ≡ false
+end_not_blank b p = grind (arith, nat_tests)
+
+pub other_not_blank : (b : ℕ) → is_separator b ≡ false → is_blank b ≡ false
+other_not_blank b p = (or_parts (is_blank b) (is_end b) p).0

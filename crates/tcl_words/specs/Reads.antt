@@ -2,10 +2,12 @@
 -- of commands finds, over the grammar of commands. Each says what was read, and where it ends.
 use Rattle.std.specs.Prelude.{◌≡◌, ◌<◌, ◌≤◌, ◌++◌, ℕ, List, [], ◌∷◌, drop, length, Result, Ok, Err}
 use Rattle.sdc_base.specs.declared.memory.At.{At}
+use Rattle.std.specs.Str.{IsCharBoundary}
+use Rattle.sdc_model.specs.declared.commands.Command.{Command}
 use Rattle.sdc_model.specs.declared.commands.Word.{Word}
 use Rattle.sdc_model.specs.declared.kinds.TclKind.{TclKind}
 use Rattle.sdc_model.specs.Bytes.{is_end, is_separator, line_after}
-use Rattle.sdc_model.specs.Commands.{AreWords, Begins, BreaksAfter, BreaksWord, IsWord, StandsWord}
+use Rattle.sdc_model.specs.Commands.{AreWords, Begins, BreaksAfter, BreaksWord, IsFirst, IsWord, StandsWord}
 use Rattle.tcl_words.specs.declared.reader.Words.{Words}
 use Rattle.tcl_words.specs.declared.spelled.Spelled.{Spelled}
 
@@ -51,3 +53,15 @@ pub record WordsAt (text : List ℕ) (from : ℕ) (read : Words) : Type 0 where
 abbrev pub WordsFrom : List ℕ → ℕ → ℕ → Result Words (At TclKind) → Type 0
 WordsFrom text from line (Ok read) = WordsAt text from read
 WordsFrom text from line (Err fault) = (before : List Word) × BreaksAfter before fault.kind (drop from text) × (fault.line ≡ line)
+
+-- commands, one behind the other, with the text behind them and the line there
+abbrev pub Follow : List Command → List ℕ → ℕ → List ℕ → ℕ → Type 0
+Follow [] text line rest line_behind = (text ≡ rest) × (line ≡ line_behind)
+Follow (command ∷ commands) text line rest line_behind =
+    (after : List ℕ) × (next : ℕ) × IsFirst text line command after next × Follow commands after next rest line_behind
+
+-- commands stand from the start of a text to a place that cuts no character, and the line there
+pub record CommandsTo (text : List ℕ) (to line : ℕ) (commands : List Command) : Type 0 where
+  pub within : to ≤ length text
+  pub boundary : IsCharBoundary text to
+  pub follow : Follow commands text 1 (drop to text) line

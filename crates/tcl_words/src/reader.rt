@@ -3,7 +3,7 @@
 ghost use Rattle.std.specs.Prelude.{◌≡◌, ◌≤◌, length, IfOk, IfSome};
 ghost use Rattle.std.specs.Str.{IsCharBoundary};
 ghost use Rattle.sdc_base.specs.Gives.{Meets};
-ghost use Rattle.sdc_model.specs.Commands.{FirstFrom};
+ghost use Rattle.sdc_model.specs.Commands.{FirstFrom, Splits};
 ghost use Rattle.tcl_words.specs.Reads.{WordsFrom};
 
 use crate::scan::{blanks, command_ends, separators};
@@ -66,4 +66,20 @@ pub fn next_command(
     let Words { words, end } = command_words(alloc, text, begin.at, line)?;
     let command = Command { line, words };
     Ok(Some(Next { command, end, line }))
+}
+
+/// The commands of a text, in order (Tcl, in the part that is read here). Refused with the line where its
+/// command begins, as `BadWord`, at the first byte that no word has.
+pub fn split(alloc: Global, text: &str) -> Result<List<Command>, Stop<At<TclKind>>>
+    ensures { Meets result (Splits text.now) }
+{
+    let mut commands = List::new(alloc);
+    let mut at = 0;
+    let mut line = 1;
+    while let Some(next) = next_command(alloc, text, at, line)? {
+        commands.push(next.command)?;
+        at = next.end;
+        line = next.line;
+    }
+    Ok(commands)
 }
