@@ -1,13 +1,12 @@
 -- The grammar of words relates one outcome: one word and one rest, or one cause, and never both.
-use Rattle.std.proofs.Common.{◌≡◌, ◌<◌, ◌≤◌, ◌++◌, ◌&&◌, ◌||◌, ℕ, Bool, true, false, not, List, [], ◌∷◌, length, refl, sym, ap, subst, ◌∙◌, arith}
+use Rattle.std.proofs.Common.{◌≡◌, ◌<◌, ◌++◌, ◌||◌, ℕ, Bool, false, not, List, [], ◌∷◌, length, refl, sym, ap, subst, ◌∙◌, arith}
 use Rattle.std.specs.List.{list_all}
 use Rattle.std.proofs.lemmas.Bool.{and_parts, both_ways, not_from_false, not-true, or_parts}
-use Rattle.std.proofs.lemmas.List.{length-append}
 use Rattle.sdc_model.specs.declared.commands.Word.{Word}
 use Rattle.sdc_model.specs.declared.commands.Part.TheVariants as part
 use Rattle.sdc_model.specs.declared.kinds.TclKind.{TclKind}
 use Rattle.sdc_model.specs.Bytes.{is_blank, is_end, is_plain, is_separator}
-use Rattle.sdc_model.specs.Commands.{AllAre, AreWords, Begins, BreaksAfter, BreaksWord, IsWord, StandsWord}
+use Rattle.sdc_model.specs.Commands.{AllAre, Begins, BreaksWord, IsWord, StandsWord}
 use Rattle.tcl_words.proofs.ByteKinds.{end_not_blank, end_separates, other_not_blank, plain_parts_not, separator_not_plain}
 use Rattle.tcl_words.proofs.Finding.{begins_both}
 
@@ -32,11 +31,11 @@ same_runs test (x ∷ xs) (y ∷ ys) a b p q other_a other_b e =
     (cc, rest.1)
 
 -- what is no separator is no blank, what ends a command is no blank, what parts words is not plain
-other_blank : (text : List ℕ) → Other is_separator text → Other is_blank text
+pub other_blank : (text : List ℕ) → Other is_separator text → Other is_blank text
 other_blank [] p = tt
 other_blank (b ∷ bs) p = not_from_false (is_blank b) (other_not_blank b (not-true (is_separator b) p))
 
-end_blank : (text : List ℕ) → Begins is_end text → Other is_blank text
+pub end_blank : (text : List ℕ) → Begins is_end text → Other is_blank text
 end_blank [] p = tt
 end_blank (b ∷ bs) p = not_from_false (is_blank b) (end_not_blank b p)
 
@@ -49,7 +48,7 @@ parts_plain [] p = tt
 parts_plain (b ∷ bs) p = not_from_false (is_plain b) (separator_not_plain b p)
 
 -- how a word begins
-record Opens (text : List ℕ) : Type 0 where
+pub record Opens (text : List ℕ) : Type 0 where
   pub some : 0 < length text
   pub other : Other is_separator text
 
@@ -71,7 +70,7 @@ breaks_open_at (b ∷ bs) rest bad plain odd = record {
   other = not_from_false (is_separator b) (plain_parts_not b (and_parts (is_plain b) (list_all is_plain bs) plain).0);
 }
 
-breaks_opens : (kind : TclKind) (text : List ℕ) → BreaksWord kind text → Opens text
+pub breaks_opens : (kind : TclKind) (text : List ℕ) → BreaksWord kind text → Opens text
 breaks_opens kind text p = subst (λ (t : List ℕ). Opens t) (sym p.all) (breaks_open_at p.front p.rest p.bad p.plain p.odd)
 
 -- one word
@@ -89,18 +88,18 @@ word_breaks w s a kind text p ends breaks e =
     both_ways (is_separator breaks.bad) odd.1 parts
 
 -- one cause
-breaks_once : (k l : TclKind) (text : List ℕ) → BreaksWord k text → BreaksWord l text → k ≡ l
+pub breaks_once : (k l : TclKind) (text : List ℕ) → BreaksWord k text → BreaksWord l text → k ≡ l
 breaks_once k l text p q = p.cause ∙ sym q.cause
 
 -- behind a gap: one rest
-same_gaps : (g h a b text : List ℕ) → AllAre is_blank g → AllAre is_blank h → Other is_blank a → Other is_blank b → text ≡ g ++ a → text ≡ h ++ b → a ≡ b
+pub same_gaps : (g h a b text : List ℕ) → AllAre is_blank g → AllAre is_blank h → Other is_blank a → Other is_blank b → text ≡ g ++ a → text ≡ h ++ b → a ≡ b
 same_gaps g h a b text p q other_a other_b e f = (same_runs is_blank g h a b p q other_a other_b (sym e ∙ f)).1
 
-stands_opens : (w : Word) (text a : List ℕ) → (p : StandsWord w text a) → Opens (p.spelling ++ a)
+pub stands_opens : (w : Word) (text a : List ℕ) → (p : StandsWord w text a) → Opens (p.spelling ++ a)
 stands_opens w text a p = word_opens w p.spelling a p.spelled
 
 -- one word stands there
-stands_once : (w v : Word) (text a b : List ℕ) → StandsWord w text a → StandsWord v text b → (w ≡ v) × (a ≡ b)
+pub stands_once : (w v : Word) (text a b : List ℕ) → StandsWord w text a → StandsWord v text b → (w ≡ v) × (a ≡ b)
 stands_once w v text a b p q =
     let open_p = stands_opens w text a p in
     let open_q = stands_opens v text b q in
@@ -108,14 +107,14 @@ stands_once w v text a b p q =
     word_once w v p.spelling q.spelling a b p.spelled q.spelled p.ends q.ends same
 
 -- no word stands where the command ends
-stands_ends : (w : Word) (text a gap rest : List ℕ) → StandsWord w text a → AllAre is_blank gap → text ≡ gap ++ rest → Begins is_end rest → ⊥
+pub stands_ends : (w : Word) (text a gap rest : List ℕ) → StandsWord w text a → AllAre is_blank gap → text ≡ gap ++ rest → Begins is_end rest → ⊥
 stands_ends w text a gap rest p blank e ends =
     let opens = stands_opens w text a p in
     let same = same_gaps p.gap gap (p.spelling ++ a) rest text p.blanks blank (other_blank (p.spelling ++ a) opens.other) (end_blank rest ends) p.all e in
     begins_both is_separator (p.spelling ++ a) opens.some (subst (λ (t : List ℕ). Begins is_separator t) (sym same) (end_parts rest ends)) opens.other
 
 -- no word stands where one breaks
-stands_breaks : (w : Word) (text a gap after : List ℕ) (kind : TclKind) → StandsWord w text a → AllAre is_blank gap → text ≡ gap ++ after → BreaksWord kind after → ⊥
+pub stands_breaks : (w : Word) (text a gap after : List ℕ) (kind : TclKind) → StandsWord w text a → AllAre is_blank gap → text ≡ gap ++ after → BreaksWord kind after → ⊥
 stands_breaks w text a gap after kind p blank e breaks =
     let opens = stands_opens w text a p in
     let other = breaks_opens kind after breaks in
@@ -123,7 +122,7 @@ stands_breaks w text a gap after kind p blank e breaks =
     word_breaks w p.spelling a kind after p.spelled p.ends breaks same
 
 -- no word breaks where the command ends
-ends_breaks : (text gap rest gap_b after : List ℕ) (kind : TclKind) → AllAre is_blank gap → text ≡ gap ++ rest → Begins is_end rest → AllAre is_blank gap_b → text ≡ gap_b ++ after → BreaksWord kind after → ⊥
+pub ends_breaks : (text gap rest gap_b after : List ℕ) (kind : TclKind) → AllAre is_blank gap → text ≡ gap ++ rest → Begins is_end rest → AllAre is_blank gap_b → text ≡ gap_b ++ after → BreaksWord kind after → ⊥
 ends_breaks text gap rest gap_b after kind blank e ends blank_b f breaks =
     let other = breaks_opens kind after breaks in
     let same = same_gaps gap gap_b rest after text blank blank_b (end_blank rest ends) (other_blank after other.other) e f in

@@ -1,4 +1,4 @@
-use Rattle.std.proofs.Common.{◌≡◌, ◌<◌, ◌≤◌, ◌-◌, length, ℕ, List, [], ◌∷◌, ◌++◌, Option, Some, None, Ok, sym, subst, arith}
+use Rattle.std.proofs.Common.{◌≤◌, length, List, Option, Some, None, Ok, sym, subst, arith}
 use Rattle.std.proofs.lemmas.Result.{err_from_is_err_and}
 use Rattle.std.specs.Option.{IfSome}
 use Rattle.std.specs.Str.{IsCharBoundary}
