@@ -1,5 +1,5 @@
 -- How commands that are found one behind the other make up a whole text.
-use Rattle.std.proofs.Common.{◌<◌, ◌≤◌, ◌++◌, ℕ, List, [], ◌∷◌, Some, None, drop, length, Ok, Err, refl, sym, ap, subst, arith}
+use Rattle.std.proofs.Common.{◌≡◌, ◌<◌, ◌≤◌, ◌++◌, ℕ, List, [], ◌∷◌, Some, None, drop, length, Ok, Err, refl, sym, ap, subst, arith}
 use Rattle.std.proofs.lemmas.List.{length-append, length-drop}
 use Rattle.std.proofs.lemmas.Str.{IsCharBoundary-start}
 use Rattle.std.specs.Str.{IsCharBoundary, IsUtf8}
@@ -13,7 +13,18 @@ use Rattle.sdc_model.specs.declared.commands.Word.{Word}
 use Rattle.sdc_model.specs.declared.kinds.TclKind.{TclKind}
 use Rattle.sdc_model.specs.Bytes.{is_separator}
 use Rattle.sdc_model.specs.Commands.{AllAre, AreCommands, AreWords, BreaksBehind, FirstFrom, IsBroken, IsFirst, Splits, StandsWord}
-use Rattle.tcl_words.specs.Reads.{CommandsTo, Follow}
+
+-- commands, one behind the other, with the text behind them and the line there
+abbrev pub Follow : List Command → List ℕ → ℕ → List ℕ → ℕ → Type 0
+Follow [] text line rest line_behind = (text ≡ rest) × (line ≡ line_behind)
+Follow (command ∷ commands) text line rest line_behind =
+    (after : List ℕ) × (next : ℕ) × IsFirst text line command after next × Follow commands after next rest line_behind
+
+-- commands stand from the start of a text to a place that cuts no character, and the line there
+pub record CommandsTo (text : List ℕ) (to line : ℕ) (commands : List Command) : Type 0 where
+  pub within : to ≤ length text
+  pub boundary : IsCharBoundary text to
+  pub follow : Follow commands text 1 (drop to text) line
 
 -- a word takes some of the text
 word_takes : (word : Word) (text after : List ℕ) → StandsWord word text after → length after < length text

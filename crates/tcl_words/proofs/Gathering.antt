@@ -9,11 +9,22 @@ use Rattle.sdc_model.specs.declared.commands.Word.{Word}
 use Rattle.sdc_model.specs.declared.kinds.TclKind.{TclKind}
 use Rattle.sdc_model.specs.Bytes.{is_blank, is_end, is_separator, line_after}
 use Rattle.sdc_model.specs.Commands.{AllAre, AreWords, Begins, BreaksAfter, BreaksWord, StandsWord}
-use Rattle.tcl_words.specs.Reads.{Behind, IsLine, WordAt, WordFrom, WordsAt, WordsFrom, WordsTo}
+use Rattle.tcl_words.specs.Reads.{IsLine, WordAt, WordFrom, WordsAt, WordsFrom}
 use Rattle.tcl_words.specs.Spans.{IsSpan, Stands}
 use Rattle.tcl_words.proofs.ByteKinds.{separator_is}
 use Rattle.tcl_words.proofs.Reading.{begins_not_test, passes_line}
 use Rattle.tcl_words.proofs.Runs.{line_after-append}
+
+-- words, one behind the other, with the text behind them
+abbrev pub Behind : List Word → List ℕ → List ℕ → Type 0
+Behind [] text rest = text ≡ rest
+Behind (word ∷ words) text rest = (after : List ℕ) × StandsWord word text after × Behind words after rest
+
+-- words stand between two places
+pub record WordsTo (text : List ℕ) (from to : ℕ) (read : List Word) : Type 0 where
+  pub spelling : List ℕ
+  pub between : IsLine text from to spelling
+  pub words : Behind read (drop from text) (drop to text)
 
 -- text of one line behind text of one line
 line_join : (text : List ℕ) (from at to : ℕ) (xs ys : List ℕ) → IsLine text from at xs → IsLine text at to ys → IsLine text from to (xs ++ ys)

@@ -1,13 +1,11 @@
 -- What stands at a place of a text: a word, the words of a command. This project's own words for what the reader
 -- of commands finds, over the grammar of commands. Each says what was read, and where it ends.
-use Rattle.std.specs.Prelude.{◌≡◌, ◌<◌, ◌≤◌, ◌++◌, ℕ, List, [], ◌∷◌, drop, length, Result, Ok, Err}
+use Rattle.std.specs.Prelude.{◌≡◌, ◌<◌, ◌≤◌, ◌++◌, ℕ, List, drop, length, Result, Ok, Err}
 use Rattle.sdc_base.specs.declared.memory.At.{At}
-use Rattle.std.specs.Str.{IsCharBoundary}
-use Rattle.sdc_model.specs.declared.commands.Command.{Command}
 use Rattle.sdc_model.specs.declared.commands.Word.{Word}
 use Rattle.sdc_model.specs.declared.kinds.TclKind.{TclKind}
 use Rattle.sdc_model.specs.Bytes.{is_end, is_separator, line_after}
-use Rattle.sdc_model.specs.Commands.{AreWords, Begins, BreaksAfter, BreaksWord, IsFirst, IsWord, StandsWord}
+use Rattle.sdc_model.specs.Commands.{AreWords, Begins, BreaksAfter, BreaksWord, IsWord}
 use Rattle.tcl_words.specs.declared.reader.Words.{Words}
 use Rattle.tcl_words.specs.declared.spelled.Spelled.{Spelled}
 
@@ -31,17 +29,6 @@ abbrev pub WordFrom : List ℕ → ℕ → ℕ → Result Spelled (At TclKind) �
 WordFrom text from line (Ok spelled) = WordAt text from spelled
 WordFrom text from line (Err fault) = BreaksWord fault.kind (drop from text) × (fault.line ≡ line)
 
--- words, one behind the other, with the text behind them
-abbrev pub Behind : List Word → List ℕ → List ℕ → Type 0
-Behind [] text rest = text ≡ rest
-Behind (word ∷ words) text rest = (after : List ℕ) × StandsWord word text after × Behind words after rest
-
--- words stand between two places
-pub record WordsTo (text : List ℕ) (from to : ℕ) (read : List Word) : Type 0 where
-  pub spelling : List ℕ
-  pub between : IsLine text from to spelling
-  pub words : Behind read (drop from text) (drop to text)
-
 -- the words of a command stand from a place to its end
 pub record WordsAt (text : List ℕ) (from : ℕ) (read : Words) : Type 0 where
   pub spelling : List ℕ
@@ -53,15 +40,3 @@ pub record WordsAt (text : List ℕ) (from : ℕ) (read : Words) : Type 0 where
 abbrev pub WordsFrom : List ℕ → ℕ → ℕ → Result Words (At TclKind) → Type 0
 WordsFrom text from line (Ok read) = WordsAt text from read
 WordsFrom text from line (Err fault) = (before : List Word) × BreaksAfter before fault.kind (drop from text) × (fault.line ≡ line)
-
--- commands, one behind the other, with the text behind them and the line there
-abbrev pub Follow : List Command → List ℕ → ℕ → List ℕ → ℕ → Type 0
-Follow [] text line rest line_behind = (text ≡ rest) × (line ≡ line_behind)
-Follow (command ∷ commands) text line rest line_behind =
-    (after : List ℕ) × (next : ℕ) × IsFirst text line command after next × Follow commands after next rest line_behind
-
--- commands stand from the start of a text to a place that cuts no character, and the line there
-pub record CommandsTo (text : List ℕ) (to line : ℕ) (commands : List Command) : Type 0 where
-  pub within : to ≤ length text
-  pub boundary : IsCharBoundary text to
-  pub follow : Follow commands text 1 (drop to text) line

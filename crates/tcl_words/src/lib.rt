@@ -8,6 +8,8 @@ mod laws;
 mod reader;
 mod scan;
 mod spelled;
+#[cfg(test)]
+mod tests;
 
 pub use laws::{first_is_one, split_is_one};
 pub use reader::{next_command, split};

@@ -3,7 +3,7 @@ use Rattle.sdc_model.specs.declared.commands.Word.{Word}
 use Rattle.std.proofs.lemmas.Result.{err_from_is_err_and}
 use Rattle.sdc_model.specs.Bytes.{is_blank, is_end}
 use Rattle.sdc_model.specs.Commands.{Begins}
-use Rattle.tcl_words.specs.Reads.{WordsTo}
+use Rattle.tcl_words.proofs.Gathering.{WordsTo}
 use Rattle.tcl_words.specs.Spans.{IsSpan}
 use Rattle.tcl_words.proofs.Gathering.{words_more, words_end, words_broken}
 use Rattle.tcl_words.proofs.reader.command_words.Goals as goal

@@ -1,5 +1,5 @@
 use Rattle.std.proofs.Common.{length, ◌-◌}
-use Rattle.tcl_words.specs.Reads.{WordsTo}
+use Rattle.tcl_words.proofs.Gathering.{WordsTo}
 use Rattle.tcl_words.proofs.reader.command_words.Given as goal
 
 abbrev pub invariant-loop-bytes : goal.invariant-loop-bytes

@@ -5,7 +5,7 @@ use Rattle.std.specs.Str.{IsCharBoundary}
 use Rattle.sdc_model.specs.declared.commands.Command.{Command}
 use Rattle.sdc_model.specs.declared.commands.Next.{Next}
 use Rattle.sdc_model.specs.Commands.{FirstFrom}
-use Rattle.tcl_words.specs.Reads.{CommandsTo}
+use Rattle.tcl_words.proofs.Following.{CommandsTo}
 use Rattle.tcl_words.proofs.Following.{commands_none, commands_more, commands_all, commands_broken, end_behind}
 use Rattle.tcl_words.proofs.reader.split.Goals as goal
 

@@ -1,5 +1,5 @@
 use Rattle.std.proofs.Common.{length, ◌-◌}
-use Rattle.tcl_words.specs.Reads.{CommandsTo}
+use Rattle.tcl_words.proofs.Following.{CommandsTo}
 use Rattle.tcl_words.proofs.reader.split.Given as goal
 
 abbrev pub invariant-loop-commands : goal.invariant-loop-commands
