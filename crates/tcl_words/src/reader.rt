@@ -1,6 +1,6 @@
 //! The first command of a text, and all of them.
 
-ghost use Rattle.std.specs.Prelude.{◌≡◌, ◌≤◌, length, IfOk, IfSome};
+ghost use Rattle.std.specs.Prelude.{◌≡◌, ◌<◌, ◌≤◌, length, IfOk, IfSome};
 ghost use Rattle.std.specs.Str.{IsCharBoundary};
 ghost use Rattle.sdc_base.specs.Gives.{Meets};
 ghost use Rattle.sdc_model.specs.Commands.{FirstFrom, Splits};
@@ -47,6 +47,7 @@ pub fn command_words(
 /// The first command at or behind a place of a text (Tcl, in the part that is read here), with the place and
 /// the line where it ends; `None` where only blanks, newlines and `;` are left. `line` is that of the place.
 /// Refused with the line where the command begins, as `BadWord`, where a byte stands in it that no word has.
+/// The end of a command is behind `from` and cuts no character, so that this can be called again there.
 pub fn next_command(
     alloc: Global,
     text: &str,
@@ -57,6 +58,7 @@ pub fn next_command(
     requires boundary { IsCharBoundary text.now from }
     ensures outcome { Meets result (FirstFrom text.now from line) }
     ensures boundary { IfOk result (λ found. IfSome found (λ next. IsCharBoundary text.now next.end)) }
+    ensures forward { IfOk result (λ found. IfSome found (λ next. from < next.end)) }
 {
     let begin = separators(text.as_bytes(), from, line);
     if begin.at == text.len() {

@@ -46,7 +46,8 @@ pub fn word_at(
 fn word_of(alloc: Global, text: Text) -> Result<Word, NoMemory>
     ensures { IfOk result (λ word. word ≡ record { parts = Part.Text text ∷ [] }) }
 {
-    let mut parts = List::new(alloc);
-    parts.push(Part::Text(text))?;
-    Ok(Word { parts })
+    let parts = vec![in alloc; Part::Text(text)]?;
+    Ok(Word {
+        parts: List::from(parts),
+    })
 }

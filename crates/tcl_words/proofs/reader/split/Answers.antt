@@ -1,12 +1,11 @@
-use Rattle.std.proofs.Common.{◌≤◌, length, List, Option, Some, None, Ok, sym, subst, arith}
+use Rattle.std.proofs.Common.{◌<◌, ◌≤◌, length, List, Option, Some, None, Ok, sym, subst, arith}
 use Rattle.std.proofs.lemmas.Result.{err_from_is_err_and}
 use Rattle.std.specs.Option.{IfSome}
 use Rattle.std.specs.Str.{IsCharBoundary}
 use Rattle.sdc_model.specs.declared.commands.Command.{Command}
 use Rattle.sdc_model.specs.declared.commands.Next.{Next}
 use Rattle.sdc_model.specs.Commands.{FirstFrom}
-use Rattle.tcl_words.proofs.Following.{CommandsTo}
-use Rattle.tcl_words.proofs.Following.{commands_none, commands_more, commands_all, commands_broken, end_behind}
+use Rattle.tcl_words.proofs.Following.{CommandsTo, commands_none, commands_more, commands_all, commands_broken}
 use Rattle.tcl_words.proofs.reader.split.Goals as goal
 
 pub loop-commands-init : goal.loop-commands-init
@@ -21,7 +20,7 @@ pub loop-commands-smaller : goal.loop-commands-smaller
 loop-commands-smaller c =
     let text = c.args.text.now in
     let found : FirstFrom text c.loop-commands.at c.loop-commands.line (Ok (Some c.in-Some.next)) = subst (λ (o : Option Next). FirstFrom text c.loop-commands.at c.loop-commands.line (Ok o)) c.in-Some.is c.in_ok-next.ensures.outcome in
-    let behind = end_behind text c.loop-commands.at c.loop-commands.line c.in-Some.next found in
+    let behind : c.loop-commands.at < c.in-Some.next.end = subst (λ (o : Option Next). IfSome o (λ next. c.loop-commands.at < next.end)) c.in-Some.is c.in_ok-next.ensures.forward in
     let within : c.in-Some.next.end ≤ length text = found.2 in
     omega arith
 
