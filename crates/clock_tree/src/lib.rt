@@ -2,3 +2,13 @@
 //!
 //! It gives the layer above `relation`, the setup and hold relation of two clock edges.
 #![tactic(auto)]
+
+mod common_divisor;
+mod edge_laws;
+mod edge_relation;
+#[cfg(test)]
+mod tests;
+
+pub use edge_laws::{relation_is_unique, relation_of_equal_edges};
+pub use edge_relation::relation;
+pub use sdc_model::Relation;

@@ -4,6 +4,7 @@ use Rattle.std.specs.Prelude.{◌≡◌, ◌+◌, ◌<◌, ◌≤◌, ◌⊎◌,
 use Rattle.std.specs.Cmp.Lexicographic.{pointwise}
 use Rattle.sdc_base.specs.declared.outside.NamedBytes.{NamedBytes}
 use Rattle.sdc_base.specs.declared.outside.Refusal.{Refusal}
+use Rattle.sdc_base.specs.declared.outside.Refusal.TheVariants as refusal
 use Rattle.sdc_base.specs.declared.whole.ReadStop.{ReadStop}
 use Rattle.sdc_base.specs.declared.whole.ReadStop.TheVariants as stop
 use Rattle.sdc_base.specs.declared.whole.TheConstants.{MOST_BYTES}
@@ -62,6 +63,19 @@ abbrev pub AnswersBytes : List ℕ → Result (List ℕ) ReadStop → Type 0
 AnswersBytes bytes (Ok read) = (read ≡ bytes) × (length bytes ≤ MOST_BYTES)
 AnswersBytes bytes (Err stop.TooLong) = MOST_BYTES < length bytes
 AnswersBytes bytes (Err _) = Unit {0}
+
+-- the rest of the begun file, to its end
+abbrev pub ReadsRest : Result (List ℕ) ReadStop → Option Reading → Option Reading → Type 0
+ReadsRest answer None None = Unit {0}
+ReadsRest answer None (Some after) = ⊥
+ReadsRest answer (Some before) None = ⊥
+ReadsRest answer (Some before) (Some after) =
+    (after.files ≡ before.files) × (after.begun ≡ before.begun) × AnswersBytes (rest_of before) answer
+
+-- why a read stopped, of why a call of the outside did
+abbrev pub stop_of : Refusal → ReadStop
+stop_of refusal.Failed = stop.Failed
+stop_of refusal.NoMemory = stop.NoMemory
 
 -- `read_all`: the file of the name, from its start to its end
 abbrev pub ReadsWhole : List ℕ → Result (List ℕ) ReadStop → Option Reading → Option Reading → Type 0

@@ -6,16 +6,34 @@
 //! memory and whole reads and writes over them. It leaves what a file holds to the crates above.
 #![tactic(auto)]
 
+mod counting;
 mod duplicate;
+mod files;
+mod fixed;
 mod lists;
+mod mem_inputs;
+mod mem_outputs;
 mod memory;
+mod memory_forms;
+#[cfg(test)]
+mod number_tests;
+mod number_text;
 mod outside;
+#[cfg(test)]
+mod outside_tests;
+mod rounding;
+mod sure_inputs;
+mod sure_outputs;
 mod texts;
+mod times;
 mod whole;
 
 pub use duplicate::Duplicate;
+pub use fixed::{Fixed, NumberError};
 pub use lists::{Bits, List};
 pub use memory::{At, NoMemory, Stop};
+pub use memory_forms::{MemInputs, MemOutputs, SureInputs, SureOutputs};
 pub use outside::{Channel, Inputs, NamedBytes, Outputs, Refusal};
 pub use texts::Text;
-pub use whole::{MOST_BYTES, ReadStop};
+pub use times::time_text;
+pub use whole::{MOST_BYTES, ReadStop, read_all, write_all};

@@ -85,6 +85,24 @@ impl<T: Drop> List<T> {
     }
 }
 
+impl List<u8> {
+    /// Adds bytes at the end. The one error is want of memory, and changes nothing.
+    pub fn extend_from_slice(&mut self, more: &[u8]) -> Result<(), NoMemory>
+        ensures ok { OnOk result (self.new ≡ self.old ++ more.now) }
+        ensures err { OnErr result (self.new ≡ self.old) }
+    {
+        self.items.extend_from_slice(more)?;
+        Ok(())
+    }
+
+    /// Makes the list empty, and keeps its memory.
+    pub fn clear(&mut self)
+        ensures { self.new ≡ [] }
+    {
+        self.items.clear();
+    }
+}
+
 impl<T> From<Vec<T>> for List<T> {
     ghost from_gives = { λ items list. list ≡ items.items };
 

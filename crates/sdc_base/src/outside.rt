@@ -4,8 +4,10 @@ ghost use Rattle.std.specs.Prelude.{◌≡◌, ◌<◌, ◌≤◌, ℕ, Option, 
 ghost use Rattle.sdc_base.specs.Counting.{Rose};
 ghost use Rattle.sdc_base.specs.Files.{Reading, Begins, Reads};
 ghost use Rattle.sdc_base.specs.Channels.{Written, Creates, Writes};
+ghost use Rattle.sdc_base.specs.declared.outside.Refusal.TheVariants as refusal;
 
 use crate::lists::List;
+use crate::memory::NoMemory;
 use crate::texts::Text;
 use thiserror::Error;
 
@@ -17,6 +19,14 @@ pub enum Refusal {
     Failed,
     #[error("out of memory")]
     NoMemory,
+}
+
+impl From<NoMemory> for Refusal {
+    ghost from_gives = { λ _ answer. answer ≡ refusal.NoMemory };
+
+    fn from(_error: NoMemory) -> Refusal {
+        Refusal::NoMemory
+    }
 }
 
 /// Where a piece of output goes.
@@ -55,7 +65,8 @@ pub trait Inputs {
     /// buffer with room means the end. A refusal leaves the begun file and its offset.
     fn read(&mut self, buffer: &mut [u8]) -> Result<usize, Refusal>
         ensures within { IfOk result (λ count. count ≤ length buffer.old) }
-        ensures reads { Reads (length buffer.old) buffer.new result (told self.old) (told self.new) }
+        ensures reads { Reads (length buffer.old) buffer.new result
+            (told self.old) (told self.new) }
         ensures faults { faults self.old ≤ faults self.new }
         ensures failed { result ≡ Err Refusal.Failed → Rose (faults self.old) (faults self.new) };
 }

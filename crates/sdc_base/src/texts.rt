@@ -75,6 +75,17 @@ impl Text {
         Ok(())
     }
 
+    /// Takes another text in place of its own. The one error is want of memory, which changes
+    /// nothing.
+    pub fn set(&mut self, text: &str) -> Result<(), NoMemory>
+        ensures ok { OnOk result (self.new ≡ text.now) }
+        ensures err { OnErr result (self.new ≡ self.old) }
+    {
+        let alloc = *self.string.allocator();
+        self.string = String::from_str(alloc, text)?;
+        Ok(())
+    }
+
     /// Makes the text empty, and keeps its memory.
     pub fn clear(&mut self)
         ensures { self.new ≡ [] }

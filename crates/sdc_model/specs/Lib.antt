@@ -2,5 +2,13 @@ pub use Rattle.sdc_base.specs.Gives
 pub use Rattle.sdc_base.specs.Counting
 pub use Rattle.sdc_base.specs.Files
 pub use Rattle.sdc_base.specs.Channels
+pub use Rattle.sdc_base.specs.Number
+pub use Rattle.sdc_base.specs.Time
+pub mod Answers
 pub mod Bytes
+pub mod ClockFile
 pub mod Commands
+pub mod CommandLine
+pub mod EdgesText
+pub mod ModeFiles
+pub mod Relation

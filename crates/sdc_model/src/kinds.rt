@@ -22,6 +22,9 @@ pub enum SdcKind {
     /// A command, option or value that this tool leaves out.
     #[error("outside what is read here")]
     OutOfProfile,
+    /// More clocks than a run takes.
+    #[error("more clocks than are taken")]
+    TooMany,
 }
 
 /// Faults of a source.

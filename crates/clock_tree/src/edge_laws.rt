@@ -1,0 +1,14 @@
+//! What is true of every relation of two edges, whoever found it.
+ghost use Rattle.sdc_model.specs.Relation.{IsEdgeOf, IsRelation};
+ghost use Rattle.sdc_model.specs.declared.edge_times.Relation.{Relation};
+ghost use Rattle.std.specs.Prelude.{◌≡◌, ℤ, pos};
+
+/// Two edges have one relation: the rule leaves no choice.
+pub fn relation_is_unique()
+    ensures { (a p b q : ℤ) (r s : Relation) → IsRelation a p b q r → IsRelation a p b q s → r ≡ s }
+{}
+
+/// An edge and itself are a whole period apart for setup, and not at all for hold.
+pub fn relation_of_equal_edges()
+    ensures { (a p : ℤ) → IsEdgeOf a p → IsRelation a p a p (record { setup = p; hold = pos 0 }) }
+{}

@@ -1,0 +1,68 @@
+//! Relations whose values come from outside: a script compared the edges of both clocks pair by pair.
+use super::*;
+
+const LAST_TIME: i64 = 2_000_000_000_000;
+
+const LAST_PERIOD: i64 = 1_000_000_000_000;
+
+// An edge and the period of its clock, in femtoseconds: A has a period of 10 ns, B of 15 ns.
+const A_RISE: (i64, i64) = (0, 10_000_000);
+
+const A_FALL: (i64, i64) = (5_000_000, 10_000_000);
+
+const B_RISE: (i64, i64) = (0, 15_000_000);
+
+const B_FALL: (i64, i64) = (7_500_000, 15_000_000);
+
+#[test]
+fn relations_of_edges(rt: HostRuntime) {
+    for ((a, p), (b, q), setup, hold) in [
+        (A_RISE, A_RISE, 10_000_000, 0),
+        (A_RISE, A_FALL, 5_000_000, -5_000_000),
+        (A_RISE, B_RISE, 5_000_000, 0),
+        (A_RISE, B_FALL, 2_500_000, -2_500_000),
+        (A_FALL, A_RISE, 5_000_000, -5_000_000),
+        (A_FALL, A_FALL, 10_000_000, 0),
+        (A_FALL, B_RISE, 5_000_000, 0),
+        (A_FALL, B_FALL, 2_500_000, -2_500_000),
+        (B_RISE, A_RISE, 5_000_000, 0),
+        (B_RISE, A_FALL, 5_000_000, 0),
+        (B_RISE, B_RISE, 15_000_000, 0),
+        (B_RISE, B_FALL, 7_500_000, -7_500_000),
+        (B_FALL, A_RISE, 2_500_000, -2_500_000),
+        (B_FALL, A_FALL, 2_500_000, -2_500_000),
+        (B_FALL, B_RISE, 7_500_000, -7_500_000),
+        (B_FALL, B_FALL, 15_000_000, 0),
+        // small periods
+        ((0, 4), (0, 6), 2, 0),
+        ((2, 4), (1, 6), 1, -1),
+        ((0, 2), (1, 4), 1, -1),
+        ((0, 1), (0, 1), 1, 0),
+        ((0, 3), (0, 3), 3, 0),
+        ((1, 3), (0, 3), 2, -1),
+        // an edge and itself
+        ((7, 12), (7, 12), 12, 0),
+        // periods without a common divisor
+        ((5, 7), (0, 11), 1, 0),
+        ((3, 997), (500, 1_009), 1, 0),
+        ((1, 999_999_999_989), (LAST_TIME, LAST_PERIOD), 1, 0),
+        // the ends of the ranges
+        ((0, LAST_PERIOD), (LAST_TIME, LAST_PERIOD), LAST_PERIOD, 0),
+        ((1, LAST_PERIOD), (0, LAST_PERIOD), 999_999_999_999, -1),
+        (
+            (LAST_TIME, LAST_PERIOD),
+            (1, 750_000_000_000),
+            1,
+            -249_999_999_999,
+        ),
+    ] {
+        assert!(rt; 0 <= a && a <= LAST_TIME && 1 <= p && p <= LAST_PERIOD);
+        assert!(rt; 0 <= b && b <= LAST_TIME && 1 <= q && q <= LAST_PERIOD);
+        let found = relation(a, p, b, q);
+        assert_eq!(rt;
+            found,
+            Relation { setup, hold },
+            "edge {a} of {p} to edge {b} of {q}"
+        );
+    }
+}

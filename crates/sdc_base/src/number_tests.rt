@@ -1,0 +1,241 @@
+//! Numbers and times whose values come from outside: Python's decimal module computed them.
+use crate::fixed::{Fixed, NumberError};
+use crate::memory::NoMemory;
+use crate::texts::Text;
+use crate::times::time_text;
+use std::alloc::Global;
+
+const READ: [(&str, i128, bool); 40] = [
+    ("0", 0, true),
+    ("5", 5_000_000_000, true),
+    ("-5", -5_000_000_000, true),
+    ("+5", 5_000_000_000, true),
+    ("007", 7_000_000_000, true),
+    ("5.", 5_000_000_000, false),
+    ("-.5", -500_000_000, false),
+    (".5", 500_000_000, false),
+    ("+.5", 500_000_000, false),
+    ("1e5", 100_000_000_000_000, false),
+    ("1E5", 100_000_000_000_000, false),
+    ("1e+5", 100_000_000_000_000, false),
+    ("1e-5", 10000, false),
+    ("1.", 1_000_000_000, false),
+    ("-0.0", 0, false),
+    ("1.50", 1_500_000_000, false),
+    ("1e-30", 0, false),
+    ("0e30", 0, false),
+    ("1e0000000000000000001", 10_000_000_000, false),
+    ("1e-9", 1, false),
+    ("5e-10", 1, false),
+    ("4e-10", 0, false),
+    ("-5e-10", -1, false),
+    ("-4e-10", 0, false),
+    ("0.0000000005", 1, false),
+    ("0.00000000049999999999999999999", 0, false),
+    ("-0.0000000005", -1, false),
+    ("-0.00000000049999999999999999999", 0, false),
+    ("0.0000000015", 2, false),
+    ("2.0000000025", 2_000_000_003, false),
+    ("999999999999999", 999_999_999_999_999_000_000_000, true),
+    ("-999999999999999", -999_999_999_999_999_000_000_000, true),
+    (
+        "999999999999999.9999999994",
+        999_999_999_999_999_999_999_999,
+        false,
+    ),
+    (
+        "-999999999999999.9999999994",
+        -999_999_999_999_999_999_999_999,
+        false,
+    ),
+    ("000000000000000000000000000000", 0, true),
+    ("000000000000000000000000000001", 1_000_000_000, true),
+    ("0.00000000000000000000000000001", 0, false),
+    ("0.0000000000000000000000000001e28", 1_000_000_000, false),
+    (
+        "123456789012345.678901234567890e-2",
+        1_234_567_890_123_456_789_012,
+        false,
+    ),
+    ("100000000000000000000000000000e-30", 100_000_000, false),
+];
+
+// No point, sign or blank too many, 31 digits, an exponent above 30, digits that are not ASCII's.
+const NO_NUMBER: [&str; 34] = [
+    "",
+    ".",
+    "-.",
+    "-",
+    "+",
+    "--1",
+    "+-1",
+    "e5",
+    "1e",
+    "1e+",
+    "1e-",
+    "1e31",
+    "1e-31",
+    "0e31",
+    "1E0031",
+    "1e5.0",
+    "1e5e5",
+    "1..2",
+    "1.2.3",
+    ".e1",
+    "1 ",
+    " 1",
+    "1_000",
+    "１",
+    "1\u{0}",
+    "0x1",
+    "1e 5",
+    "0000000000000000000000000000000",
+    "1.000000000000000000000000000000",
+    "0000000000000000000000000000001e31",
+    "1e99999999999999999999999999999999",
+    "99999999999999999999999999999999.e1",
+    "inf",
+    "1f",
+];
+
+const TOO_GREAT: [&str; 10] = [
+    "1000000000000000",
+    "-1000000000000000",
+    "999999999999999.9999999995",
+    "-999999999999999.9999999995",
+    "1e15",
+    "1e30",
+    "9e29",
+    "999999999999999999999999999999",
+    "999999999999999999999999999999e30",
+    ".1e16",
+];
+
+// A number, a unit in picoseconds, and the time in femtoseconds, or None where it is too long.
+const TIMES: [(&str, u32, Option<i64>); 29] = [
+    ("2.5", 1000, Some(2_500_000)),
+    ("-2.5", 1, Some(-2500)),
+    ("0.0000015", 1000, Some(2)),
+    ("0.00000149", 1000, Some(1)),
+    ("-0.0000015", 1000, Some(-2)),
+    ("-0.00000149", 1000, Some(-1)),
+    ("0.0005", 1, Some(1)),
+    ("-0.0005", 1, Some(-1)),
+    ("0.000499999", 1, Some(0)),
+    ("0.00005", 10, Some(1)),
+    ("0.0000499", 10, Some(0)),
+    ("-0.00005", 10, Some(-1)),
+    ("0.000005", 100, Some(1)),
+    ("0.000004999", 100, Some(0)),
+    ("-0.000005", 100, Some(-1)),
+    ("10000000000", 1000, Some(10_000_000_000_000_000)),
+    ("-10000000000", 1000, Some(-10_000_000_000_000_000)),
+    ("10000000000.0000004", 1000, Some(10_000_000_000_000_000)),
+    ("10000000000.000001", 1000, None),
+    ("-10000000000.0000005", 1000, None),
+    ("10000000000000", 1, Some(10_000_000_000_000_000)),
+    ("10000000000000.0005", 1, None),
+    ("1000000000000", 10, Some(10_000_000_000_000_000)),
+    ("1000000000000.0001", 10, None),
+    ("100000000000", 100, Some(10_000_000_000_000_000)),
+    ("100000000001", 100, None),
+    ("999999999999999", 1, None),
+    ("0", 1, Some(0)),
+    ("4", 1000, Some(4_000_000)),
+];
+
+// A time in femtoseconds, a unit in picoseconds, and the text.
+const TEXTS: [(i64, u32, &str); 24] = [
+    (2_500_000, 1000, "2.5"),
+    (-7_500_000, 1000, "-7.5"),
+    (0, 1000, "0"),
+    (0, 1, "0"),
+    (1, 1000, "0.000001"),
+    (-1, 1000, "-0.000001"),
+    (1, 1, "0.001"),
+    (1, 10, "0.0001"),
+    (1, 100, "0.00001"),
+    (10, 1000, "0.00001"),
+    (1_000_000, 1000, "1"),
+    (1_000_001, 1000, "1.000001"),
+    (100_000_000, 1000, "100"),
+    (10_000_000_000_000_000, 1, "10000000000000"),
+    (-10_000_000_000_000_000, 1000, "-10000000000"),
+    (i64::MAX, 1, "9223372036854775.807"),
+    (i64::MIN, 1, "-9223372036854775.808"),
+    (i64::MIN, 1000, "-9223372036854.775808"),
+    (i64::MAX, 1000, "9223372036854.775807"),
+    (120, 1, "0.12"),
+    (-999, 1, "-0.999"),
+    (123_456, 10, "12.3456"),
+    (123_450, 10, "12.345"),
+    (500_000, 100, "5"),
+];
+
+fn time_in(number: Fixed, picoseconds: u32) -> Result<i64, NumberError> {
+    match picoseconds {
+        10 => number.to_time(10_000),
+        100 => number.to_time(100_000),
+        1000 => number.to_time(1_000_000),
+        _ => number.to_time(1_000),
+    }
+}
+
+fn text_in(alloc: Global, fs: i64, picoseconds: u32) -> Result<Text, NoMemory> {
+    match picoseconds {
+        10 => time_text(alloc, fs, 10_000),
+        100 => time_text(alloc, fs, 100_000),
+        1000 => time_text(alloc, fs, 1_000_000),
+        _ => time_text(alloc, fs, 1_000),
+    }
+}
+
+#[test]
+fn texts_of_numbers(rt: HostRuntime) {
+    for (text, scaled, whole) in READ {
+        let number = Fixed::read(text);
+        assert!(rt; number.is_ok(), "{text} is a number");
+        if let Ok(number) = number {
+            assert_eq!(rt; number.scaled, scaled, "at {text}");
+            assert_eq!(rt; number.whole, whole, "at {text}");
+        }
+    }
+}
+
+#[test]
+fn texts_of_no_number(rt: HostRuntime) {
+    for text in NO_NUMBER {
+        assert!(rt;
+            Fixed::read(text) == Err(NumberError::NumberForm),
+            "at {text}"
+        );
+    }
+    for text in TOO_GREAT {
+        assert!(rt;
+            Fixed::read(text) == Err(NumberError::NumberRange),
+            "at {text}"
+        );
+    }
+}
+
+#[test]
+fn times_of_numbers(rt: HostRuntime) {
+    for (text, unit, want) in TIMES {
+        let time = match Fixed::read(text) {
+            Ok(number) => time_in(number, unit).ok(),
+            Err(_) => None,
+        };
+        assert!(rt; time == want, "{text} units of {unit} ps");
+    }
+}
+
+#[test]
+fn texts_of_times(rt: HostRuntime) {
+    for (fs, unit, want) in TEXTS {
+        let text = text_in(rt.alloc(), fs, unit);
+        assert!(rt; text.is_ok());
+        if let Ok(text) = text {
+            assert_eq!(rt; text.as_str(), want, "{fs} fs in units of {unit} ps");
+        }
+    }
+}
