@@ -13,3 +13,4 @@ mod file_outputs;
 pub use exit_numbers::exit_number;
 pub use file_inputs::FileInputs;
 pub use file_outputs::FileOutputs;
+pub use sdc_model::Status;
