@@ -84,45 +84,33 @@ mod tests {
         let report = fs::create(&rt, "outputs.report")?;
         let mut room = [0; 3];
         let mut outputs = FileOutputs::new(&rt, report, room.as_mut_slice());
-        assert_eq!(rt; outputs.write(Channel::Report, b"A rise"), Ok(6));
-        assert_eq!(rt;
-            outputs.write(Channel::Merged, b"x"),
-            Err(Refusal::Failed),
-            "no file"
-        );
-        assert_eq!(rt; outputs.faults, 1);
-        assert_eq!(rt;
+        let too_early = outputs.write(Channel::Merged, b"x");
+        let created = [
             outputs.create("no such folder/merged.sdc"),
-            Err(Refusal::Failed)
-        );
-        assert_eq!(rt; outputs.faults, 2);
-        assert_eq!(rt; outputs.create("outputs.sdc"), Ok(()));
-        assert_eq!(rt; outputs.write(Channel::Merged, b"create_clock"), Ok(12));
-        assert_eq!(rt;
+            outputs.create("outputs.sdc"),
+        ];
+        let written = [
+            outputs.write(Channel::Report, b"A rise"),
+            outputs.write(Channel::Merged, b"create_clock"),
             outputs.write(Channel::Faults, b"abcd"),
-            Ok(3),
-            "a part of the piece"
-        );
-        assert_eq!(rt; outputs.write(Channel::Faults, b""), Ok(0));
-        assert_eq!(rt; outputs.faults, 2);
-        assert_eq!(rt;
+            outputs.write(Channel::Faults, b""),
             outputs.write(Channel::Faults, b"d"),
-            Err(Refusal::Failed),
-            "it takes none"
-        );
+        ];
+        let failed = Err(Refusal::Failed);
+        assert_eq!(rt; too_early, failed);
+        assert_eq!(rt; created, [Err(Refusal::Failed), Ok(())]);
+        assert_eq!(rt; written, [Ok(6), Ok(12), Ok(3), Ok(0), failed]);
         assert_eq!(rt; outputs.faults, 3);
         drop(outputs);
-        assert_eq!(rt;
-            fs::read_to_string(&rt, "outputs.report")?.as_str(),
-            "A rise"
-        );
-        assert_eq!(rt;
-            fs::read_to_string(&rt, "outputs.sdc")?.as_str(),
-            "create_clock"
-        );
-        assert_eq!(rt; room, *b"abc");
+        let report = fs::read_to_string(&rt, "outputs.report")?;
+        let merged = fs::read_to_string(&rt, "outputs.sdc")?;
         fs::remove_file(&rt, "outputs.report")?;
         fs::remove_file(&rt, "outputs.sdc")?;
+        assert_eq!(rt;
+            (report.as_str(), merged.as_str()),
+            ("A rise", "create_clock")
+        );
+        assert_eq!(rt; room, *b"abc", "what fits of a piece");
         Ok(())
     }
 }
