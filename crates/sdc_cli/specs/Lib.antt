@@ -1,0 +1,2 @@
+pub mod ExitNumbers
+pub mod Refusals

@@ -1,0 +1,46 @@
+//! What a shell sees of a run.
+
+ghost use Rattle.std.specs.Prelude.{◌≡◌};
+ghost use Rattle.sdc_cli.specs.ExitNumbers.{exit_of};
+
+use sdc_model::Status;
+
+/// The number that the tool exits with after an answer of a run; only 0 says that all was well. The
+/// numbers are this project's own.
+pub fn exit_number(status: &Status) -> u8
+    ensures { result ≡ exit_of status.now }
+{
+    match status {
+        Status::Done => 0,
+        Status::Usage => 2,
+        Status::Source(_) => 3,
+        Status::ReadFault(_) => 7,
+        Status::WriteFault => 8,
+        Status::NoMemory => 9,
+    }
+}
+
+#[cfg(test)]
+mod tests {
+    use super::*;
+    use sdc_model::{Fault, Kind, SdcKind};
+
+    #[test]
+    fn exit_numbers_of_all_answers(rt: HostRuntime) {
+        let fault = Fault {
+            file: 1,
+            line: 3,
+            kind: Kind::Sdc(SdcKind::OutOfProfile),
+        };
+        for (status, number) in [
+            (Status::Done, 0),
+            (Status::Usage, 2),
+            (Status::Source(fault), 3),
+            (Status::ReadFault(1), 7),
+            (Status::WriteFault, 8),
+            (Status::NoMemory, 9),
+        ] {
+            assert_eq!(rt; exit_number(&status), number, "{status:?}");
+        }
+    }
+}

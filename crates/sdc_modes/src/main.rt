@@ -1,0 +1,26 @@
+//! The program: its words to `run`, and the answer of `run` to the shell.
+#![tactic(auto)]
+
+use sdc_cli::{FileInputs, FileOutputs, Status, exit_number, run};
+use std::env;
+use std::io::ErrorKind;
+use std::process::ExitCode;
+
+fn main(rt: HostRuntime) -> ExitCode {
+    let alloc = rt.alloc();
+    // A word that is no UTF-8 makes the command line wrong.
+    let words: Result<Vec<String>, Status> = match env::args(&rt) {
+        Ok(words) => words.skip(1).collect(alloc).map_err(|_| Status::NoMemory),
+        Err(error) if error.kind() == ErrorKind::OutOfMemory => Err(Status::NoMemory),
+        Err(_) => Err(Status::Usage),
+    };
+    let status = match words {
+        Ok(words) => {
+            let mut inputs = FileInputs::new(&rt);
+            let mut outputs = FileOutputs::new(&rt, rt.stdout(), rt.stderr());
+            run(alloc, words.as_slice(), &mut inputs, &mut outputs)
+        }
+        Err(status) => status,
+    };
+    ExitCode::from(exit_number(&status))
+}
