@@ -1,16 +1,23 @@
-//! The command line of the tool as a library.
+//! The tool as a library: `run` does all the work of the program over any inputs and outputs.
 //!
-//! It gives the program the real outside, `FileInputs` and `FileOutputs` over files and the standard
-//! streams, and the exit number of each answer of a run. It leaves the process itself, its words and its
-//! end, to the program, on which no test can stand.
+//! It reads the words of the command line, reads and understands the files, computes the report and writes
+//! it, in this order, and the contract of `run` says what every answer means. It gives the program, on
+//! which no test can stand, the real outside (`FileInputs`, `FileOutputs`) and the exit number of each
+//! answer; it leaves the process itself, its words and its end, to the program.
 #![tactic(auto)]
 
+mod command_line;
+mod edges_report;
 mod exit_numbers;
 mod fault_count;
 mod file_inputs;
 mod file_outputs;
+mod mode_file;
+mod mode_files;
+mod tool;
 
 pub use exit_numbers::exit_number;
 pub use file_inputs::FileInputs;
 pub use file_outputs::FileOutputs;
 pub use sdc_model::Status;
+pub use tool::run;

@@ -1,0 +1,82 @@
+-- Edges of clocks with times, and lines of a report that are joined at their end.
+use Rattle.std.proofs.Math.Seq.{drop-cons}
+use Rattle.std.proofs.Common.{◌≡◌, ◌+◌, ◌<◌, suc, add-one, length, get_or, drop, ℕ, List, [], ◌∷◌, ◌++◌, refl, sym, ◌∙◌, ap, append_assoc, append-nil, subst}
+use Rattle.sdc_model.specs.declared.clocks.Clock.{Clock}
+use Rattle.sdc_model.specs.declared.edge_times.Relation.{Relation}
+use Rattle.sdc_model.specs.declared.edge_times.TimedEdge.{TimedEdge}
+use Rattle.sdc_model.specs.declared.modes.Mode.{Mode}
+use Rattle.sdc_model.specs.Relation.{IsRelation}
+use Rattle.sdc_model.specs.EdgesText.{clock_edges, edges_of, AreTimed, HaveTimes, ModesHaveTimes, Appends, AreLinesFrom, AreLines, AreReports, IsReport, edge_line}
+
+pub AreTimed-append : (es fs : List TimedEdge) → AreTimed es → AreTimed fs → AreTimed (es ++ fs)
+AreTimed-append [] fs timed others = others
+AreTimed-append (e ∷ es) fs timed others = (timed.0, AreTimed-append es fs timed.1 others)
+
+-- clocks that have times have edges that are timed
+pub AreTimed-clock_edges : (clocks : List Clock) → HaveTimes clocks → AreTimed (clock_edges clocks)
+AreTimed-clock_edges [] have = tt
+AreTimed-clock_edges (clock ∷ clocks) have = AreTimed-append _ _ have.0 (AreTimed-clock_edges clocks have.1)
+
+pub HaveTimes-push : (clocks : List Clock) (clock : Clock) → HaveTimes clocks → AreTimed (edges_of clock.name clock.form) → HaveTimes (clocks ++ clock ∷ [])
+HaveTimes-push [] clock have timed = (timed, tt)
+HaveTimes-push (c ∷ clocks) clock have timed = (have.0, HaveTimes-push clocks clock have.1 timed)
+
+pub ModesHaveTimes-push : (modes : List Mode) (mode : Mode) → ModesHaveTimes modes → HaveTimes mode.clocks → ModesHaveTimes (modes ++ mode ∷ [])
+ModesHaveTimes-push [] mode have timed = (timed, tt)
+ModesHaveTimes-push (m ∷ modes) mode have timed = (have.0, ModesHaveTimes-push modes mode have.1 timed)
+
+-- the rest of a list from a place on begins with the item there
+pub drop-item : {A : Type 0} (xs : List A) (i : ℕ) (x : A) → i < length xs → x ≡ get_or xs i x → drop i xs ≡ x ∷ drop (i + 1) xs
+drop-item xs i x within is = drop-cons xs i x within ∙ (ap (λ y. y ∷ drop (suc i) xs) (sym is) ∙ ap (λ n. x ∷ drop n xs) (sym (add-one i)))
+
+-- what completes a text behind which one more piece stands
+completes : (All : List ℕ → Type 0) (old text new piece rest : List ℕ) → new ≡ text ++ piece
+    → ((lines : List ℕ) × All lines × (old ++ lines ≡ text ++ (piece ++ rest))) → (lines : List ℕ) × All lines × (old ++ lines ≡ new ++ rest)
+completes All old text new piece rest e found =
+    (found.0, found.1, found.2 ∙ (sym (append_assoc text piece rest) ∙ ap (λ t. t ++ rest) (sym e)))
+
+-- one more line of a launch edge
+pub LinesFrom-more : (file : List ℕ) (launch capture : TimedEdge) (captures : List TimedEdge) (i : ℕ) (All : List ℕ → Type 0)
+    (old text new : List ℕ) (relation : Relation)
+    → drop i captures ≡ capture ∷ drop (i + 1) captures
+    → ((rest : List ℕ) → AreLinesFrom file launch (drop i captures) rest → (lines : List ℕ) × All lines × (old ++ lines ≡ text ++ rest))
+    → IsRelation launch.time launch.period capture.time capture.period relation
+    → new ≡ text ++ edge_line file launch capture relation
+    → (rest : List ℕ) → AreLinesFrom file launch (drop (i + 1) captures) rest
+    → (lines : List ℕ) × All lines × (old ++ lines ≡ new ++ rest)
+LinesFrom-more file launch capture captures i All old text new relation at before is e rest lines =
+    let P : List TimedEdge → Type 0 = λ left. AreLinesFrom file launch left (edge_line file launch capture relation ++ rest) in
+    completes All old text new _ rest e (before _ (subst P (sym at) (relation, rest, is, refl, lines)))
+
+-- the lines of one more launch edge
+pub Lines-more : (file : List ℕ) (launch : TimedEdge) (launches captures : List TimedEdge) (i : ℕ) (All : List ℕ → Type 0)
+    (old text new : List ℕ)
+    → drop i launches ≡ launch ∷ drop (i + 1) launches
+    → ((rest : List ℕ) → AreLines file (drop i launches) captures rest → (lines : List ℕ) × All lines × (old ++ lines ≡ text ++ rest))
+    → Appends (AreLinesFrom file launch captures) text new
+    → (rest : List ℕ) → AreLines file (drop (i + 1) launches) captures rest
+    → (lines : List ℕ) × All lines × (old ++ lines ≡ new ++ rest)
+Lines-more file launch launches captures i All old text new at before appends rest lines =
+    let P : List TimedEdge → Type 0 = λ left. AreLines file left captures (appends.0 ++ rest) in
+    completes All old text new appends.0 rest appends.2 (before _ (subst P (sym at) (appends.0, rest, appends.1, refl, lines)))
+
+-- where no lines are left, the text has them all
+pub all_appended : (All : List ℕ → Type 0) (old text : List ℕ)
+    → ((lines : List ℕ) × All lines × (old ++ lines ≡ text ++ [])) → Appends All old text
+all_appended All old text found = (found.0, found.1, sym (found.2 ∙ append-nil text))
+
+-- one more report
+pub Reports-more : (files : List (List ℕ)) (modes : List Mode) (i : ℕ) (file : List ℕ) (mode : Mode) (All : List ℕ → Type 0)
+    (text new : List ℕ)
+    → drop i files ≡ file ∷ drop (i + 1) files
+    → drop i modes ≡ mode ∷ drop (i + 1) modes
+    → ((rest : List ℕ) → AreReports (drop i files) (drop i modes) rest → (all : List ℕ) × All all × (all ≡ text ++ rest))
+    → Appends (IsReport file mode.clocks) text new
+    → (rest : List ℕ) → AreReports (drop (i + 1) files) (drop (i + 1) modes) rest
+    → (all : List ℕ) × All all × (all ≡ new ++ rest)
+Reports-more files modes i file mode All text new at at_mode before appends rest reports =
+    let P : List (List ℕ) → Type 0 = λ left. AreReports left (drop i modes) (appends.0 ++ rest) in
+    let Q : List Mode → Type 0 = λ left. AreReports (file ∷ drop (i + 1) files) left (appends.0 ++ rest) in
+    let here : Q (drop i modes) = subst Q (sym at_mode) (appends.0, rest, appends.1, refl, reports) in
+    let found = before _ (subst P (sym at) here) in
+    (found.0, found.1, found.2 ∙ (sym (append_assoc text appends.0 rest) ∙ ap (λ t. t ++ rest) (sym appends.2)))

@@ -1,0 +1,14 @@
+use Rattle.std.proofs.Common.{◌≡◌, ◌≤◌, length}
+use Rattle.sdc_model.specs.Answers.{OnTold}
+use Rattle.sdc_model.specs.EdgesText.{ModesHaveTimes}
+use Rattle.sdc_cli.proofs.ModeSteps.{ReadSoFar}
+use Rattle.sdc_cli.proofs.mode_files.read_modes.Given as goal
+
+abbrev pub invariant-loop-at : goal.invariant-loop-at
+invariant-loop-at g l = record {
+  told : OnTold (ReadSoFar l.most l.names l.at l.count l.modes) (g.I.Inputs.told l.fn.inputs) (g.I.Inputs.told l.inputs);
+  counts : g.I.Inputs.faults l.fn.inputs ≤ g.I.Inputs.faults l.inputs;
+  each : length l.modes ≡ l.at;
+  within : l.count ≤ l.most;
+  timed : ModesHaveTimes l.modes;
+}
