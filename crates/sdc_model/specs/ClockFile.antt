@@ -1,62 +1,29 @@
--- What a file of plain clocks says, in the part of SDC that is read here: commands
--- `create_clock -name NAME -period P`, at most 1,024 of them. A clock is virtual, rises at 0 and falls at half its
--- period. Anything else is out of profile, bytes that are no text too. The bounds and the rounding are this project's own.
-use Rattle.std.specs.Prelude.{◌≡◌, ◌/◌, ◌^◌, ◌&&◌, ◌⊎◌, ℕ, ℤ, pos, negsuc, Bool, false, not, List, [], ◌∷◌, ◌++◌, length, Option, Some, None, Result, Ok, Err, codes, nat_eq, nat_lt, nat_le, if◌then◌else◌}
+-- What a file of clocks and clock groups says, in the part of SDC 2.1 that is read here: `set sdc_version 2.1`,
+-- `set_units -time 1ns`, `create_clock -name NAME -period P` with `-waveform {R F}` where it is given, and
+-- `set_clock_groups -asynchronous -group G -group G`. Anything else is out of profile, bytes that are no text too.
+use Rattle.std.specs.Prelude.{◌≡◌, ◌&&◌, ◌⊎◌, ℕ, pos, Bool, false, not, List, [], ◌∷◌, ◌++◌, length, Option, Some, None, Result, Ok, Err, codes, nat_lt, if◌then◌else◌}
 use Rattle.std.specs.List.{list_all, list_any}
 use Rattle.std.specs.Option.{option_and_then}
 use Rattle.std.specs.Str.{IsUtf8}
-use Rattle.std.specs.Cmp.Lexicographic.{pointwise}
-use Rattle.sdc_base.specs.Number.{Number, read_number}
-use Rattle.sdc_base.specs.Time.{time_of}
 use Rattle.sdc_base.specs.declared.memory.At.{At}
 use Rattle.sdc_base.specs.declared.memory.Stop.{Stop}
 use Rattle.sdc_base.specs.declared.memory.Stop.TheVariants as stop
-use Rattle.sdc_base.specs.declared.fixed.NumberError.{NumberError}
 use Rattle.sdc_model.specs.declared.clocks.Clock.{Clock}
 use Rattle.sdc_model.specs.declared.clocks.Wave.{Wave}
 use Rattle.sdc_model.specs.declared.clocks.Form.TheVariants.{Primary}
 use Rattle.sdc_model.specs.declared.clocks.Early.{Early}
 use Rattle.sdc_model.specs.declared.commands.Command.{Command}
 use Rattle.sdc_model.specs.declared.commands.Word.{Word}
-use Rattle.sdc_model.specs.declared.commands.Part.{Part}
-use Rattle.sdc_model.specs.declared.commands.Part.TheVariants as part
 use Rattle.sdc_model.specs.declared.kinds.Kind.{Kind}
 use Rattle.sdc_model.specs.declared.kinds.Kind.TheVariants.{Sdc}
 use Rattle.sdc_model.specs.declared.kinds.SdcKind.TheVariants.{OutOfProfile}
 use Rattle.sdc_model.specs.declared.kinds.TclKind.{TclKind}
 use Rattle.sdc_model.specs.declared.modes.Mode.{Mode}
 use Rattle.sdc_model.specs.Bytes.{is_name_byte}
+use Rattle.sdc_model.specs.ClockGroups.{Groups, group_of, exclusive_pairs}
 use Rattle.sdc_model.specs.Commands.{Splits}
-
--- two texts are the same
-abbrev pub same_text : List ℕ → List ℕ → Bool
-same_text = pointwise nat_eq
-
--- the text of a word that is one text
-abbrev pub only_text : List Part → Option (List ℕ)
-only_text (part.Text text ∷ []) = Some text
-only_text _ = None
-
--- the word is one text, and this one
-abbrev pub is_text : List Part → List ℕ → Bool
-is_text (part.Text text ∷ []) expected = same_text text expected
-is_text _ expected = false
-
--- the time that a text gives in nanoseconds, in femtoseconds
-abbrev pub nanoseconds : Result Number NumberError → Option ℤ
-nanoseconds (Err _) = None
-nanoseconds (Ok number) = within (time_of number (pos 1000000)) where
-  within : Result ℤ NumberError → Option ℤ
-  within (Err _) = None
-  within (Ok time) = Some time
-
--- a period: 2 to 10^12 fs
-abbrev pub period_within : ℤ → Option ℕ
-period_within (pos time) = if nat_le 2 time && nat_le time (10 ^ 12) then Some time else None
-period_within (negsuc _) = None
-
-abbrev pub period_of : List ℕ → Option ℕ
-period_of text = option_and_then period_within (nanoseconds (read_number text))
+use Rattle.sdc_model.specs.Waveform.{period_of, plain_wave, waveform_of}
+use Rattle.sdc_model.specs.Words.{same_text, only_text, is_text}
 
 -- letters, digits and `_`, at least one
 abbrev pub is_name : List ℕ → Bool
@@ -77,43 +44,84 @@ virtual_clock line name wave = record {
   name = name;
   sources = [];
   form = Primary wave;
-  latency = record { source_early = no_value; source_late = no_value; network_early = no_value; network_late = no_value };
+  latency = record {
+    source_early = no_value;
+    source_late = no_value;
+    network_early = no_value;
+    network_late = no_value;
+  };
   setup_uncertainty = pos 0;
   hold_uncertainty = pos 0;
   propagated = false;
 }
 
--- the waveform of a clock whose period alone is given
-abbrev pub plain_wave : ℕ → Wave
-plain_wave period = record { period = pos period; rise = pos 0; fall = pos (period / 2) }
+-- the clocks so far, and the groups of each command that has some
+pub record SoFar : Type 0 where
+  pub clocks : List Clock
+  pub groups : List Groups
 
--- the clock of a name and a period's text, where the name is new
-abbrev pub named_clock : List Clock → ℕ → List ℕ → List ℕ → Option Clock
-named_clock clocks line name period =
-    if is_name name && not (is_taken name clocks)
-    then option_and_then (λ time. Some (virtual_clock line name (plain_wave time))) (period_of period)
+-- one more clock, where its name is new
+abbrev pub with_clock : SoFar → ℕ → List ℕ → Option Wave → Option SoFar
+with_clock so_far line name wave =
+    if is_name name && not (is_taken name so_far.clocks)
+    then option_and_then (λ w. Some (record so_far { clocks = so_far.clocks ++ virtual_clock line name w ∷ [] })) wave
     else None
 
--- the clock that a command of these words makes, behind the clocks before it
-abbrev pub clock_of : List Clock → ℕ → List Word → Option Clock
-clock_of clocks line (command ∷ name_option ∷ name ∷ period_option ∷ period ∷ []) =
-    if is_text command.parts (codes "create_clock") && is_text name_option.parts (codes "-name")
-    && is_text period_option.parts (codes "-period")
-    then option_and_then (λ name_text. option_and_then (named_clock clocks line name_text) (only_text period.parts)) (only_text name.parts)
+-- the waveform of a period's text, and of a waveform's text where there is one
+abbrev pub wave_given : List ℕ → Option (List ℕ) → Option Wave
+wave_given period None = option_and_then (λ time. Some (plain_wave time)) (period_of period)
+wave_given period (Some waveform) = option_and_then (λ time. waveform_of time waveform) (period_of period)
+
+-- `create_clock` of these arguments
+abbrev pub create_clock : SoFar → ℕ → List Word → Option SoFar
+create_clock so_far line (name_option ∷ name ∷ period_option ∷ period ∷ []) =
+    if is_text name_option.parts (codes "-name") && is_text period_option.parts (codes "-period")
+    then option_and_then (λ n. option_and_then (λ p. with_clock so_far line n (wave_given p None)) (only_text period.parts)) (only_text name.parts)
     else None
-clock_of clocks line _ = None
+create_clock so_far line (name_option ∷ name ∷ period_option ∷ period ∷ wave_option ∷ wave ∷ []) =
+    if is_text name_option.parts (codes "-name") && is_text period_option.parts (codes "-period") && is_text wave_option.parts (codes "-waveform")
+    then option_and_then (λ n. option_and_then (λ p. option_and_then (λ w. with_clock so_far line n (wave_given p (Some w))) (only_text wave.parts)) (only_text period.parts)) (only_text name.parts)
+    else None
+create_clock so_far line _ = None
 
--- the clocks of these commands, behind the clocks before them
-abbrev pub clocks_of : List Clock → List Command → Option (List Clock)
-clocks_of clocks [] = Some clocks
-clocks_of clocks (command ∷ commands) =
-    option_and_then (λ clock. clocks_of (clocks ++ clock ∷ []) commands) (clock_of clocks command.line command.words)
+-- two more groups
+abbrev pub with_groups : SoFar → Option (List ℕ) → Option (List ℕ) → Option SoFar
+with_groups so_far first second =
+    option_and_then (λ f. option_and_then (λ s. Some (record so_far { groups = so_far.groups ++ record { first = f; second = s } ∷ [] })) second) first
 
--- a mode of clocks alone
-abbrev pub clock_mode : List Clock → Mode
-clock_mode clocks = record {
-  clocks = clocks;
-  exclusive = [];
+-- `set_clock_groups` of these arguments
+abbrev pub set_clock_groups : SoFar → List Word → Option SoFar
+set_clock_groups so_far (kind ∷ first_option ∷ first ∷ second_option ∷ second ∷ []) =
+    if is_text kind.parts (codes "-asynchronous") && is_text first_option.parts (codes "-group") && is_text second_option.parts (codes "-group")
+    then with_groups so_far (group_of so_far.clocks first.parts) (group_of so_far.clocks second.parts)
+    else None
+set_clock_groups so_far _ = None
+
+-- `set` and `set_units` of these arguments, which have these texts and change nothing
+abbrev pub keep_for : List ℕ → List ℕ → SoFar → List Word → Option SoFar
+keep_for first second so_far (one ∷ two ∷ []) = if is_text one.parts first && is_text two.parts second then Some so_far else None
+keep_for first second so_far _ = None
+
+-- what a command of these words does
+abbrev pub does : SoFar → ℕ → List Word → Option SoFar
+does so_far line [] = None
+does so_far line (command ∷ arguments) =
+    if is_text command.parts (codes "create_clock") then create_clock so_far line arguments
+    else (if is_text command.parts (codes "set_clock_groups") then set_clock_groups so_far arguments
+    else (if is_text command.parts (codes "set_units") then keep_for (codes "-time") (codes "1ns") so_far arguments
+    else (if is_text command.parts (codes "set") then keep_for (codes "sdc_version") (codes "2.1") so_far arguments
+    else None)))
+
+-- what these commands do
+abbrev pub do_all : SoFar → List Command → Option SoFar
+do_all so_far [] = Some so_far
+do_all so_far (command ∷ commands) = option_and_then (λ next. do_all next commands) (does so_far command.line command.words)
+
+-- a mode of clocks and exclusive pairs alone
+abbrev pub clock_mode : SoFar → Mode
+clock_mode so_far = record {
+  clocks = so_far.clocks;
+  exclusive = exclusive_pairs so_far.groups (length so_far.clocks);
   cases = [];
   disabled = [];
   delays = [];
@@ -123,14 +131,14 @@ clock_mode clocks = record {
 }
 
 -- the mode, or the fault where there is none
-abbrev pub or_fault : Option (List Clock) → Result Mode Kind
+abbrev pub or_fault : Option SoFar → Result Mode Kind
 or_fault None = Err (Sdc OutOfProfile)
-or_fault (Some clocks) = Ok (clock_mode clocks)
+or_fault (Some so_far) = Ok (clock_mode so_far)
 
 -- the mode of the commands of a text
 abbrev pub mode_of : Result (List Command) (At TclKind) → Result Mode Kind
 mode_of (Err _) = Err (Sdc OutOfProfile)
-mode_of (Ok commands) = if nat_le (length commands) 1024 then or_fault (clocks_of [] commands) else Err (Sdc OutOfProfile)
+mode_of (Ok commands) = or_fault (do_all (record { clocks = []; groups = [] }) commands)
 
 -- what the bytes of a file say: a mode, or their fault
 abbrev pub SaysMode : List ℕ → Result Mode Kind → Type 0

@@ -4,7 +4,7 @@
 use Rattle.std.specs.Prelude.{◌==◌, ◌&&◌, ℕ, Bool, false, List, [], ◌∷◌, length, map, string_bytes, String, Option, Some, None, codes, nat_le, if◌then◌else◌}
 use Rattle.std.specs.Global.{Global}
 use Rattle.std.specs.Option.{option_and_then}
-use Rattle.sdc_model.specs.ClockFile.{same_text}
+use Rattle.sdc_model.specs.Words.{same_text}
 
 -- the words as lists of bytes
 abbrev pub words_of : List (String Global) → List (List ℕ)

@@ -12,3 +12,7 @@ pub mod CommandLine
 pub mod EdgesText
 pub mod ModeFiles
 pub mod Relation
+pub mod ClockGroups
+pub mod Items
+pub mod Waveform
+pub mod Words

@@ -1,0 +1,57 @@
+-- The waveform of a clock from the numbers of its command, in whole femtoseconds (SDC 2.1, create_clock).
+-- Without a waveform a clock rises at 0 and falls at half its period, rounded down. The bounds are this project's own.
+use Rattle.std.specs.Prelude.{◌≡◌, ◌+◌, ◌-◌, ◌/◌, ◌%◌, ◌^◌, ◌&&◌, ℕ, ℤ, pos, negsuc, List, [], ◌∷◌, Option, Some, None, Result, Ok, Err, nat_lt, nat_le, if◌then◌else◌}
+use Rattle.std.specs.Option.{option_and_then}
+use Rattle.sdc_base.specs.Number.{Number, read_number}
+use Rattle.sdc_base.specs.Time.{time_of}
+use Rattle.sdc_base.specs.declared.fixed.NumberError.{NumberError}
+use Rattle.sdc_model.specs.declared.clocks.Wave.{Wave}
+use Rattle.sdc_model.specs.Items.{items}
+
+-- the longest time of a clock, 10^12 fs
+abbrev pub longest_time : ℕ
+longest_time = 10 ^ 12
+
+-- the time of a number of nanoseconds
+abbrev pub time_in : Result ℤ NumberError → Option ℤ
+time_in (Err _) = None
+time_in (Ok time) = Some time
+
+abbrev pub nanoseconds : Result Number NumberError → Option ℤ
+nanoseconds (Err _) = None
+nanoseconds (Ok number) = time_in (time_of number (pos 1000000))
+
+-- a time from a least one to the longest
+abbrev pub time_within : ℕ → ℤ → Option ℕ
+time_within least (pos time) = if nat_le least time && nat_le time longest_time then Some time else None
+time_within least (negsuc _) = None
+
+-- the time of a text in nanoseconds, from a least one to the longest
+abbrev pub time_from : ℕ → List ℕ → Option ℕ
+time_from least text = option_and_then (time_within least) (nanoseconds (read_number text))
+
+-- a period: at least 2 fs
+abbrev pub period_of : List ℕ → Option ℕ
+period_of text = time_from 2 text
+
+-- the waveform of a clock whose period alone is given
+abbrev pub plain_wave : ℕ → Wave
+plain_wave period = record { period = pos period; rise = pos 0; fall = pos (period / 2) }
+
+-- both edges moved down by whole periods until the rise is below the period
+abbrev pub moved_down : ℕ → ℕ → ℕ → Wave
+moved_down period rise fall = record { period = pos period; rise = pos (rise % period); fall = pos (fall - (rise - rise % period)) }
+
+-- the waveform of these edges: the fall behind the rise, and before the next rise
+abbrev pub wave_within : ℕ → ℕ → ℕ → Option Wave
+wave_within period rise fall =
+    if nat_lt rise fall && nat_lt fall (rise + period) then Some (moved_down period rise fall) else None
+
+-- the waveform of a list of two times, of the rise and of the fall
+abbrev pub wave_of : ℕ → List (List ℕ) → Option Wave
+wave_of period (rise ∷ fall ∷ []) =
+    option_and_then (λ rise_time. option_and_then (wave_within period rise_time) (time_from 0 fall)) (time_from 0 rise)
+wave_of period _ = None
+
+abbrev pub waveform_of : ℕ → List ℕ → Option Wave
+waveform_of period text = wave_of period (items text)

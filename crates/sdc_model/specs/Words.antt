@@ -1,0 +1,19 @@
+-- Words of a command that are one text each: what most arguments are.
+use Rattle.std.specs.Prelude.{ℕ, Bool, false, List, [], ◌∷◌, Option, Some, None, nat_eq}
+use Rattle.std.specs.Cmp.Lexicographic.{pointwise}
+use Rattle.sdc_model.specs.declared.commands.Part.{Part}
+use Rattle.sdc_model.specs.declared.commands.Part.TheVariants as part
+
+-- two texts are the same
+abbrev pub same_text : List ℕ → List ℕ → Bool
+same_text = pointwise nat_eq
+
+-- the text of a word that is one text
+abbrev pub only_text : List Part → Option (List ℕ)
+only_text (part.Text text ∷ []) = Some text
+only_text _ = None
+
+-- the word is one text, and this one
+abbrev pub is_text : List Part → List ℕ → Bool
+is_text (part.Text text ∷ []) expected = same_text text expected
+is_text _ expected = false
