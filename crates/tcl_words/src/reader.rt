@@ -57,8 +57,8 @@ pub fn next_command(
     requires within { from ≤ length text.now }
     requires boundary { IsCharBoundary text.now from }
     ensures outcome { Meets result (FirstFrom text.now from line) }
-    ensures boundary { IfOk result (λ found. IfSome found (λ next. IsCharBoundary text.now next.end)) }
-    ensures forward { IfOk result (λ found. IfSome found (λ next. from < next.end)) }
+    ensures boundary { IfOk result (λ o. IfSome o (λ next. IsCharBoundary text.now next.end)) }
+    ensures forward { IfOk result (λ o. IfSome o (λ next. from < next.end)) }
 {
     let begin = separators(text.as_bytes(), from, line);
     if begin.at == text.len() {
