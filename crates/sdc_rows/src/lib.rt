@@ -1,0 +1,8 @@
+//! Tests of the whole tool: worked examples with values from outside, texts as a person sees them, and an
+//! outside that fails. They run `run` over forms in memory. What a clause of `run` says is not tested here.
+#![tactic(auto)]
+
+#[cfg(test)]
+mod edges;
+#[cfg(test)]
+mod runs;
