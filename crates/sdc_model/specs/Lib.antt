@@ -7,10 +7,13 @@ pub use Rattle.sdc_base.specs.Time
 pub mod Answers
 pub mod Bytes
 pub mod ClockFile
+pub mod ClockIdentity
 pub mod Commands
 pub mod CommandLine
 pub mod EdgesText
+pub mod Exclusive
 pub mod ModeFiles
+pub mod PlainViews
 pub mod Relation
 pub mod ClockGroups
 pub mod Items

@@ -1,0 +1,50 @@
+//! Which clocks of several modes are one.
+//!
+//! It gives the layer above `map_clocks`, the merged clocks of several modes with the merged clock that each clock is,
+//! and `exclusive_pairs`, the merged clocks that are exclusive. It leaves to others what a mode says of paths, and how
+//! a merged mode is printed.
+#![tactic(auto)]
+
+mod all_clocks;
+mod exclusive;
+mod map_laws;
+mod merged;
+mod names;
+mod numbering;
+mod ranks;
+mod rows;
+mod standings;
+#[cfg(test)]
+mod tests;
+
+ghost use Rattle.std.specs.Prelude.{◌≤◌, ◌^◌, IfOk};
+ghost use Rattle.sdc_model.specs.ClockIdentity.{IsClockMap};
+ghost use Rattle.sdc_model.specs.PlainViews.{ModesArePrimary, HaveWaves, clock_count};
+
+pub use exclusive::exclusive_pairs;
+
+use sdc_base::{List, NoMemory};
+use sdc_model::{ClockMap, View};
+use std::alloc::Global;
+
+/// The merged clocks of several modes, and for each mode the merged clock that each of its clocks is.
+///
+/// The rule is this project's own: clocks of different modes are one exactly where their definitions are equal, names
+/// and lines aside, and they have the same rank by name among the equal definitions of their mode. The modes' own
+/// `clock_map` is not read. All clocks are primary ones. The one error is want of memory.
+pub fn map_clocks(alloc: Global, modes: &List<View>) -> Result<ClockMap, NoMemory>
+    requires primary { ModesArePrimary modes.now }
+    requires waves { HaveWaves modes.now }
+    requires few { clock_count modes.now ≤ 2 ^ 32 }
+    ensures { IfOk result (IsClockMap modes.now) }
+{
+    let (standings, identities) = all_clocks::all_clocks(alloc, modes)?;
+    let numbers = numbering::numbers_of(alloc, identities)?;
+    let merged = merged::merged_clocks(alloc, &standings, &numbers)?;
+    let maps = rows::rows_of(alloc, modes, &numbers)?;
+    Ok(ClockMap {
+        clocks: merged.clocks,
+        waves: merged.waves,
+        maps,
+    })
+}

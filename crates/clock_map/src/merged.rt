@@ -1,0 +1,77 @@
+//! The merged clocks, each made of the first clock that it is.
+
+use crate::names::merged_name;
+use sdc_base::{Duplicate, List, NoMemory, Text};
+use sdc_model::{Clock, Definition, Standing, Wave};
+use std::alloc::Global;
+use std::collections::BTreeSet;
+
+/// Merged clocks in order, their waveforms, and the names that they have.
+#[derive(Drop)]
+pub(crate) struct Merged {
+    pub(crate) clocks: List<Clock>,
+    pub(crate) waves: List<Wave>,
+    names: BTreeSet<Text>,
+}
+
+/// The merged clocks of all clocks, of which each has the number of its merged clock.
+pub(crate) fn merged_clocks(
+    alloc: Global,
+    standings: &List<Standing>,
+    numbers: &List<u32>,
+) -> Result<Merged, NoMemory> {
+    let own = own_names(alloc, standings)?;
+    let standings = standings.as_slice();
+    let mut merged = Merged {
+        clocks: List::new(alloc),
+        waves: List::new(alloc),
+        names: BTreeSet::new(alloc),
+    };
+    for (at, number) in numbers.as_slice().iter().enumerate() {
+        if *number as usize == merged.clocks.len() {
+            add_merged(alloc, &own, &mut merged, &standings[at])?;
+        }
+    }
+    Ok(merged)
+}
+
+/// The names of all clocks of the modes.
+fn own_names(alloc: Global, standings: &List<Standing>) -> Result<BTreeSet<Text>, NoMemory> {
+    let mut names = BTreeSet::new(alloc);
+    for standing in standings.as_slice() {
+        let name = standing.name.copy(alloc)?;
+        names.insert(name)?;
+    }
+    Ok(names)
+}
+
+/// Adds the merged clock whose first clock is this one.
+fn add_merged(
+    alloc: Global,
+    own: &BTreeSet<Text>,
+    merged: &mut Merged,
+    first: &Standing,
+) -> Result<(), NoMemory> {
+    let name = merged_name(alloc, own, &merged.names, &first.name)?;
+    let kept = name.copy(alloc)?;
+    merged.names.insert(kept)?;
+    let clock = clock_with(alloc, name, &first.definition)?;
+    merged.clocks.push(clock)?;
+    merged.waves.push(first.definition.wave)?;
+    Ok(())
+}
+
+/// The clock of a name and a definition; no line made it.
+fn clock_with(alloc: Global, name: Text, definition: &Definition) -> Result<Clock, NoMemory> {
+    let sources = definition.sources.copy(alloc)?;
+    Ok(Clock {
+        line: 0,
+        name,
+        sources,
+        form: definition.form,
+        latency: definition.latency,
+        setup_uncertainty: definition.setup_uncertainty,
+        hold_uncertainty: definition.hold_uncertainty,
+        propagated: definition.propagated,
+    })
+}

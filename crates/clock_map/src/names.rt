@@ -1,0 +1,57 @@
+//! The names of merged clocks.
+
+ghost use Rattle.std.specs.Prelude.{IfOk, ◌≡◌};
+ghost use Rattle.sdc_model.specs.ClockIdentity as identity;
+
+use itoa::Buffer;
+use sdc_base::{Duplicate, NoMemory, Text};
+use std::alloc::Global;
+use std::collections::BTreeSet;
+
+/// The name of a merged clock whose first clock has the name `first`: that name, if no earlier merged clock has it, and
+/// a free one else.
+pub(crate) fn merged_name(
+    alloc: Global,
+    own: &BTreeSet<Text>,
+    earlier: &BTreeSet<Text>,
+    first: &Text,
+) -> Result<Text, NoMemory>
+    ensures { IfOk result (λ name. identity.IsMergedName own.now.keys earlier.now.keys first.now name) }
+{
+    if earlier.contains(first) {
+        free_name(alloc, own, earlier, first)
+    } else {
+        first.copy(alloc)
+    }
+}
+
+/// The name with `_k` that no clock of a mode and no earlier merged clock has, with the least k from 1.
+fn free_name(
+    alloc: Global,
+    own: &BTreeSet<Text>,
+    earlier: &BTreeSet<Text>,
+    first: &Text,
+) -> Result<Text, NoMemory>
+    ensures { IfOk result (λ name. identity.IsFreeName own.now.keys earlier.now.keys first.now name) }
+{
+    let taken = own.len() as u64 + earlier.len() as u64;
+    let mut k = 1_u64;
+    loop {
+        let name = numbered_name(alloc, first, k)?;
+        if !own.contains(&name) && !earlier.contains(&name) {
+            return Ok(name);
+        }
+        k += 1;
+    }
+}
+
+/// The name with `_k`.
+fn numbered_name(alloc: Global, name: &Text, k: u64) -> Result<Text, NoMemory>
+    ensures { IfOk result (λ numbered. numbered ≡ identity.numbered_name name.now k) }
+{
+    let mut numbered = name.copy(alloc)?;
+    let mut buffer = Buffer::new();
+    numbered.push_str("_")?;
+    numbered.push_str(buffer.format(k))?;
+    Ok(numbered)
+}

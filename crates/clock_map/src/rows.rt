@@ -1,0 +1,31 @@
+//! The numbers of all clocks, mode by mode.
+
+ghost use Rattle.std.specs.Prelude.{◌≡◌, length, IfOk};
+ghost use Rattle.std.specs.List.{concat, AllZip};
+ghost use Rattle.sdc_model.specs.PlainViews.{clock_count};
+
+use sdc_base::{List, NoMemory};
+use sdc_model::View;
+use std::alloc::Global;
+
+/// For each mode the numbers of its clocks, of those of all clocks.
+pub(crate) fn rows_of(
+    alloc: Global,
+    modes: &List<View>,
+    numbers: &List<u32>,
+) -> Result<List<List<u32>>, NoMemory>
+    requires { length numbers.now ≡ clock_count modes.now }
+    ensures all { IfOk result (λ rows. concat rows ≡ numbers.now) }
+    ensures shape { IfOk result (λ rows. AllZip (λ view row. length row ≡ length view.mode.clocks) modes.now rows) }
+{
+    let numbers = numbers.as_slice();
+    let mut rows = List::new(alloc);
+    let mut at = 0;
+    for view in modes.as_slice() {
+        let end = at + view.mode.clocks.len();
+        let row = Vec::from_slice(alloc, &numbers[at..end])?;
+        rows.push(List::from(row))?;
+        at = end;
+    }
+    Ok(rows)
+}

@@ -1,0 +1,30 @@
+-- What a list of modes must have so that its clocks can be merged by their own waveforms alone. This project's own.
+-- Every clock is primary, each has its wave, and the clocks can be counted.
+use Rattle.std.specs.Prelude.{◌≡◌, ◌+◌, ℕ, List, [], ◌∷◌, length}
+use Rattle.sdc_model.specs.declared.clocks.Clock.{Clock}
+use Rattle.sdc_model.specs.declared.clocks.Form.{Form}
+use Rattle.sdc_model.specs.declared.clocks.Form.TheVariants.{Primary, Generated}
+use Rattle.sdc_model.specs.declared.views.View.{View}
+
+abbrev pub IsPrimary : Form → Type 0
+IsPrimary (Primary wave) = Unit {0}
+IsPrimary (Generated source master shape invert) = ⊥
+
+abbrev pub ArePrimary : List Clock → Type 0
+ArePrimary [] = Unit {0}
+ArePrimary (clock ∷ clocks) = IsPrimary clock.form × ArePrimary clocks
+
+-- no mode has a generated clock
+abbrev pub ModesArePrimary : List View → Type 0
+ModesArePrimary [] = Unit {0}
+ModesArePrimary (view ∷ views) = ArePrimary view.mode.clocks × ModesArePrimary views
+
+-- each clock of each mode has a wave
+abbrev pub HaveWaves : List View → Type 0
+HaveWaves [] = Unit {0}
+HaveWaves (view ∷ views) = (length view.waves ≡ length view.mode.clocks) × HaveWaves views
+
+-- how many clocks the modes have
+abbrev pub clock_count : List View → ℕ
+clock_count [] = 0
+clock_count (view ∷ views) = length view.mode.clocks + clock_count views
