@@ -7,8 +7,10 @@ pub use Rattle.sdc_base.specs.Time
 pub mod Answers
 pub mod Bytes
 pub mod ClockFile
-pub mod Commands
 pub mod CommandLine
+pub mod Commands
 pub mod EdgesText
 pub mod ModeFiles
+pub mod PrintedFile
+pub mod PrintedLine
 pub mod Relation
