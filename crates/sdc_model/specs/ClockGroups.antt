@@ -38,9 +38,9 @@ abbrev pub before_brace : List ℕ → Option (List ℕ)
 before_brace [] = None
 before_brace (b ∷ bs) =
     if b == 125 then blank_end (behind_blanks bs) else option_and_then (λ inner. Some (b ∷ inner)) (before_brace bs) where
-  blank_end : List ℕ → Option (List ℕ)
-  blank_end [] = Some []
-  blank_end (c ∷ cs) = None
+      blank_end : List ℕ → Option (List ℕ)
+      blank_end [] = Some []
+      blank_end (c ∷ cs) = None
 
 -- the text in a pair of braces, behind blanks and with only blanks behind it
 abbrev pub braced_text : List ℕ → Option (List ℕ)

@@ -1,0 +1,131 @@
+-- The file that a design and a mode are printed as (commands of SDC 2.1): its lines, each by its words, and its bytes.
+-- The choice of the commands, their options and their order is this project's own.
+-- It reads: the header, then a line for each clock, then one for each clock with later clocks that are exclusive to it.
+use Rattle.std.specs.Prelude.{◌≡◌, ◌<◌, ◌^◌, ◌==◌, ◌⊎◌, ℕ, suc, ℤ, pos, unsigned_abs, ◌+ℤ◌, ◌≤ℤ◌, ◌<ℤ◌, Bool, false, IsTrue, List, [], ◌∷◌, ◌++◌, length, map, codes, Option, Some, None, slice_get, if◌then◌else◌}
+use Rattle.std.specs.List.{filter}
+use Rattle.sdc_base.specs.Time.{IsUnit, time_text_of}
+use Rattle.sdc_model.specs.declared.clocks.Clock.{Clock}
+use Rattle.sdc_model.specs.declared.clocks.Form.{Form}
+use Rattle.sdc_model.specs.declared.clocks.Form.TheVariants.{Primary, Generated}
+use Rattle.sdc_model.specs.declared.clocks.Pair.{Pair}
+use Rattle.sdc_model.specs.declared.clocks.Wave.{Wave}
+use Rattle.sdc_model.specs.declared.designs.Design.{Design}
+use Rattle.sdc_model.specs.declared.modes.Mode.{Mode}
+use Rattle.sdc_model.specs.ClockFile.{is_name, is_taken, virtual_clock, clock_mode}
+use Rattle.sdc_model.specs.PrintedLine.{PrintedWord, bare, spaced, lines_text, name_word, list_word, query_word}
+
+-- the time unit of a library as Liberty and SDC name it
+abbrev pub unit_text : ℤ → List ℕ
+unit_text unit =
+    let u = unsigned_abs unit in
+    if u == 1000 then codes "1ps"
+    else if u == 10000 then codes "10ps"
+    else if u == 100000 then codes "100ps"
+    else codes "1ns"
+
+-- the version of SDC and the time unit
+abbrev pub header_lines : ℤ → List (List PrintedWord)
+header_lines unit =
+    (bare (codes "set") ∷ bare (codes "sdc_version") ∷ bare (codes "2.1") ∷ [])
+    ∷ (bare (codes "set_units") ∷ bare (codes "-time") ∷ bare (unit_text unit) ∷ []) ∷ []
+
+-- a time as its number of units
+abbrev pub time_word : ℤ → ℤ → PrintedWord
+time_word unit fs = bare (time_text_of fs unit)
+
+-- the times of the rise and the fall of a waveform
+abbrev pub wave_word : ℤ → Wave → PrintedWord
+wave_word unit wave = list_word (time_text_of wave.rise unit ∷ time_text_of wave.fall unit ∷ [])
+
+-- the line of a clock with a waveform of its own
+abbrev pub clock_line : ℤ → List ℕ → Wave → List PrintedWord
+clock_line unit name wave =
+    bare (codes "create_clock") ∷ bare (codes "-name") ∷ name_word name ∷ bare (codes "-period") ∷ time_word unit wave.period
+    ∷ bare (codes "-waveform") ∷ wave_word unit wave ∷ []
+
+-- the line of a clock by its form
+abbrev pub lines_of_form : ℤ → List ℕ → Form → List (List PrintedWord)
+lines_of_form unit name (Primary wave) = clock_line unit name wave ∷ []
+lines_of_form unit name (Generated source master shape invert) = []
+
+-- the lines of clocks in order
+abbrev pub clock_lines : ℤ → List Clock → List (List PrintedWord)
+clock_lines unit [] = []
+clock_lines unit (clock ∷ clocks) = lines_of_form unit clock.name clock.form ++ clock_lines unit clocks
+
+-- the name of a clock, and the names of clocks, by their places
+abbrev pub name_of : Option Clock → List ℕ
+name_of None = []
+name_of (Some clock) = clock.name
+
+abbrev pub names_at : List Clock → List ℕ → List (List ℕ)
+names_at clocks places = map (λ place. name_of (slice_get clocks place)) places
+
+-- the later clocks that are exclusive to the one at a place
+abbrev pub exclusive_to : ℕ → List Pair → List ℕ
+exclusive_to place pairs = map (λ pair. pair.second) (filter (λ pair. pair.first == place) pairs)
+
+-- clocks as an option's value
+abbrev pub clocks_word : List (List ℕ) → PrintedWord
+clocks_word names = query_word (codes "get_clocks") names
+
+-- the line that makes a clock and others exclusive
+abbrev pub group_line : List ℕ → List (List ℕ) → List PrintedWord
+group_line name others =
+    bare (codes "set_clock_groups") ∷ bare (codes "-asynchronous") ∷ bare (codes "-group") ∷ clocks_word (name ∷ [])
+    ∷ bare (codes "-group") ∷ clocks_word others ∷ []
+
+-- that line where there are others
+abbrev pub lines_of_group : List ℕ → List (List ℕ) → List (List PrintedWord)
+lines_of_group name [] = []
+lines_of_group name (other ∷ others) = group_line name (other ∷ others) ∷ []
+
+-- the lines of groups of the clocks from a place on, by all clocks and all exclusive pairs
+abbrev pub group_lines : List Clock → List Pair → ℕ → List Clock → List (List PrintedWord)
+group_lines all pairs place [] = []
+group_lines all pairs place (clock ∷ clocks) =
+    lines_of_group clock.name (names_at all (exclusive_to place pairs)) ++ group_lines all pairs (suc place) clocks
+
+-- the lines of the file, and its bytes
+abbrev pub printed_lines : Design → Mode → List (List PrintedWord)
+printed_lines design mode =
+    header_lines design.unit
+    ++ (clock_lines design.unit mode.clocks ++ group_lines mode.clocks mode.exclusive 0 mode.clocks)
+
+abbrev pub printed_file : Design → Mode → List ℕ
+printed_file design mode = lines_text (printed_lines design mode)
+
+-- a waveform that a line can give: a period of 2 to 10^12 fs, in which it rises, and one fall before the next rise
+pub record IsPrintableWave (wave : Wave) : Type 0 where
+  pub period : (pos 2 ≤ℤ wave.period) × (wave.period ≤ℤ pos (10 ^ 12))
+  pub rise : (pos 0 ≤ℤ wave.rise) × (wave.rise <ℤ wave.period)
+  pub fall : (wave.rise <ℤ wave.fall) × (wave.fall <ℤ (wave.rise +ℤ wave.period)) × (wave.fall ≤ℤ pos (10 ^ 12))
+
+-- a virtual clock with such a waveform, and a name of letters, digits and `_`
+abbrev pub IsPrintableClock : Clock → Type 0
+IsPrintableClock clock =
+    (wave : Wave) × (clock ≡ virtual_clock clock.line clock.name wave) × IsPrintableWave wave × IsTrue (is_name clock.name)
+
+-- such clocks, each of a name that none before it has
+abbrev pub ArePrintableClocks : List Clock → List Clock → Type 0
+ArePrintableClocks before [] = Unit {0}
+ArePrintableClocks before (clock ∷ clocks) =
+    IsPrintableClock clock × (is_taken clock.name before ≡ false) × ArePrintableClocks (before ++ clock ∷ []) clocks
+
+-- the first of some pairs, if there is one, comes behind a pair in the order of both places
+abbrev pub IsBehind : Pair → List Pair → Type 0
+IsBehind pair [] = Unit {0}
+IsBehind pair (next ∷ pairs) = (pair.first < next.first) ⊎ ((pair.first ≡ next.first) × (pair.second < next.second))
+
+-- pairs of places of so many clocks, in order, each once, the lesser place first
+abbrev pub ArePairs : ℕ → List Pair → Type 0
+ArePairs count [] = Unit {0}
+ArePairs count (pair ∷ pairs) =
+    (pair.first < pair.second) × (pair.second < count) × IsBehind pair pairs × ArePairs count pairs
+
+-- a mode that can be printed over a design: printable clocks, and exclusive pairs of them, and no other part
+pub record IsPrintable (design : Design) (mode : Mode) : Type 0 where
+  pub unit : IsUnit design.unit
+  pub clocks : ArePrintableClocks [] mode.clocks
+  pub pairs : ArePairs (length mode.clocks) mode.exclusive
+  pub alone : mode ≡ record (clock_mode mode.clocks) { exclusive = mode.exclusive }

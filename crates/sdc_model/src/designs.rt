@@ -1,0 +1,137 @@
+//! A design: what a flattened netlist says of its pins, cells and nets, by their places. This project's own numbering.
+
+use crate::library_cells::LibCell;
+use crate::pins::Pin;
+use sdc_base::{Duplicate, List, NoMemory, Text};
+use std::alloc::Global;
+
+/// What a pin of a design is: a port bit of the top module, or a pin of a cell, by its direction.
+#[derive(Clone, Copy, Debug, PartialEq, Eq, PartialOrd, Ord)]
+pub enum Role {
+    InPort,
+    OutPort,
+    CellIn,
+    CellOut,
+    CellOther,
+}
+
+impl Duplicate for Role {
+    fn copy(&self, _alloc: Global) -> Result<Role, NoMemory> {
+        Ok(*self)
+    }
+}
+
+/// What drives a pin or a net: nothing, a constant, or a pin.
+#[derive(Clone, Copy, Debug, PartialEq, Eq, PartialOrd, Ord)]
+pub enum Source {
+    Nothing,
+    Zero,
+    One,
+    Pin(Pin),
+}
+
+impl Duplicate for Source {
+    fn copy(&self, _alloc: Global) -> Result<Source, NoMemory> {
+        Ok(*self)
+    }
+}
+
+/// A pin of a design.
+#[derive(Debug, Drop, PartialEq, Eq, PartialOrd, Ord)]
+pub struct PinInfo {
+    pub name: Text,
+    pub role: Role,
+    /// The cell of a cell pin, by its place.
+    pub cell: Option<u32>,
+    /// The place of the pin among those of its library cell.
+    pub lib_pin: u16,
+    pub driver: Source,
+}
+
+impl Duplicate for PinInfo {
+    fn copy(&self, alloc: Global) -> Result<PinInfo, NoMemory> {
+        let name = self.name.copy(alloc)?;
+        let role = self.role.copy(alloc)?;
+        let cell = self.cell.copy(alloc)?;
+        let lib_pin = self.lib_pin.copy(alloc)?;
+        let driver = self.driver.copy(alloc)?;
+        Ok(PinInfo {
+            name,
+            role,
+            cell,
+            lib_pin,
+            driver,
+        })
+    }
+}
+
+/// A cell of a design: its library cell by its place, and its pins, which stand one behind the other.
+#[derive(Debug, Drop, PartialEq, Eq, PartialOrd, Ord)]
+pub struct CellInfo {
+    pub name: Text,
+    pub kind: u32,
+    pub first: Pin,
+    pub count: u16,
+}
+
+impl Duplicate for CellInfo {
+    fn copy(&self, alloc: Global) -> Result<CellInfo, NoMemory> {
+        let name = self.name.copy(alloc)?;
+        let kind = self.kind.copy(alloc)?;
+        let first = self.first.copy(alloc)?;
+        let count = self.count.copy(alloc)?;
+        Ok(CellInfo {
+            name,
+            kind,
+            first,
+            count,
+        })
+    }
+}
+
+/// A net of a design.
+#[derive(Debug, Drop, PartialEq, Eq, PartialOrd, Ord)]
+pub struct NetInfo {
+    pub name: Text,
+    pub source: Source,
+}
+
+impl Duplicate for NetInfo {
+    fn copy(&self, alloc: Global) -> Result<NetInfo, NoMemory> {
+        let name = self.name.copy(alloc)?;
+        let source = self.source.copy(alloc)?;
+        Ok(NetInfo { name, source })
+    }
+}
+
+/// A flattened design. Pins, cells, nets and library cells are named by their places in these lists.
+#[derive(Debug, Drop)]
+pub struct Design {
+    /// The name of the top module.
+    pub top: Text,
+    /// The time unit of the library in femtoseconds.
+    pub unit: i64,
+    pub pins: List<PinInfo>,
+    pub cells: List<CellInfo>,
+    pub nets: List<NetInfo>,
+    pub kinds: List<LibCell>,
+}
+
+impl Duplicate for Design {
+    fn copy(&self, alloc: Global) -> Result<Design, NoMemory> {
+        let top = self.top.copy(alloc)?;
+        let unit = self.unit.copy(alloc)?;
+        let pins = self.pins.copy(alloc)?;
+        let cells = self.cells.copy(alloc)?;
+        let nets = self.nets.copy(alloc)?;
+        let kinds = self.kinds.copy(alloc)?;
+        Ok(Design {
+            top,
+            unit,
+            pins,
+            cells,
+            nets,
+            kinds,
+        })
+    }
+}
