@@ -1,15 +1,16 @@
 -- Mode files read one after the other: what was read so far, and what the next file makes of it.
-use Rattle.std.proofs.Common.{◌≡◌, ◌+◌, ℕ, suc, List, [], ◌∷◌, ◌++◌, length, drop, Option, Some, None, Result, Ok, Err, refl, sym, ◌∙◌, ap, subst, inl, inr, add-one, append_assoc, append-nil}
+use Rattle.std.proofs.Common.{◌≡◌, ◌+◌, ℕ, suc, List, [], ◌∷◌, ◌++◌, length, drop, Option, Some, None, Result, Ok, Err, refl, sym, ◌∙◌, ap, subst, inl, inr, append_assoc, append-nil}
 use Rattle.sdc_base.specs.Files.{Reading, bytes_of, ReadsWhole}
 use Rattle.sdc_base.specs.declared.outside.NamedBytes.{NamedBytes}
 use Rattle.sdc_model.specs.declared.answers.Status.{Status}
 use Rattle.sdc_model.specs.declared.answers.Status.TheVariants as status
+use Rattle.sdc_model.specs.declared.command_lines.CommandLine.{CommandLine}
 use Rattle.sdc_model.specs.declared.kinds.Fault.{Fault}
 use Rattle.sdc_model.specs.declared.kinds.Kind.{Kind}
 use Rattle.sdc_model.specs.declared.modes.Mode.{Mode}
 use Rattle.sdc_model.specs.ClockFile.{SaysMode}
 use Rattle.sdc_model.specs.ModeFiles.{SayModes, SaysFile, with_first}
-use Rattle.sdc_model.specs.Answers.{OnTold, ReadsMode, ReadsModes, FailsReading}
+use Rattle.sdc_model.specs.Answers.{OnTold, ReadsMode, ReadsModes, FailsReading, files_of, first_place, most_clocks}
 
 -- a fault of what the bytes of a file say is a fault of the file
 pub told_fault : (most count place line : ℕ) (kind : Kind) (name bytes : List ℕ) (before after : Option Reading)
@@ -30,106 +31,98 @@ in_front-push : (modes : List Mode) (mode : Mode) (outcome : Result (List Mode) 
 in_front-push modes mode (Ok others) = ap (λ (all : List Mode). Ok all) (sym (append_assoc modes (mode ∷ []) others))
 in_front-push modes mode (Err fault) = refl
 
--- Behind `at` files of these names, which said these modes with so many clocks: whatever the other files say completes
--- what all say, and where the read of another one fails, the read of all fails there.
-pub record ReadSoFar (most : ℕ) (names : List (List ℕ)) (at count : ℕ) (modes : List Mode) (before now : Reading) : Type 0 where
+-- Behind `at` files of these names, which said these modes with so many clocks, the next one at a place of the words:
+-- whatever the other files say completes what all say, and where the read of another one fails, the read of all fails there.
+pub record ReadSoFar (most first : ℕ) (names : List (List ℕ)) (at place count : ℕ) (modes : List Mode) (before now : Reading) : Type 0 where
   pub files : now.files ≡ before.files
-  pub say : (outcome : Result (List Mode) Fault) → SayModes most before.files (at + 1) count (drop at names) outcome
-      → SayModes most before.files 1 0 names (in_front modes outcome)
-  pub fails : (failed : ℕ) (begun : Option (List ℕ)) → FailsReading most before.files (at + 1) count now.begun (drop at names) failed begun
-      → FailsReading most before.files 1 0 before.begun names failed begun
+  pub say : (outcome : Result (List Mode) Fault) → SayModes most before.files place count (drop at names) outcome
+    → SayModes most before.files first 0 names (in_front modes outcome)
+  pub fails : (failed : ℕ) (begun : Option (List ℕ)) → FailsReading most before.files place count now.begun (drop at names) failed begun
+    → FailsReading most before.files first 0 before.begun names failed begun
 
-pub ReadSoFar-none : (most : ℕ) (names : List (List ℕ)) (before : Option Reading) → OnTold (ReadSoFar most names 0 0 []) before before
-ReadSoFar-none most names None = tt
-ReadSoFar-none most names (Some before) = record {
+pub ReadSoFar-none : (most first : ℕ) (names : List (List ℕ)) (before : Option Reading) → OnTold (ReadSoFar most first names 0 first 0 []) before before
+ReadSoFar-none most first names None = tt
+ReadSoFar-none most first names (Some before) = record {
   files = refl;
   say = all_say;
   fails = λ failed begun fails. fails;
 } where
-  all_say : (outcome : Result (List Mode) Fault) → SayModes most before.files 1 0 names outcome → SayModes most before.files 1 0 names (in_front [] outcome)
+  all_say : (outcome : Result (List Mode) Fault) → SayModes most before.files first 0 names outcome → SayModes most before.files first 0 names (in_front [] outcome)
   all_say (Ok others) say = say
   all_say (Err fault) say = say
 
 -- one more mode
-more_read : (most : ℕ) (names : List (List ℕ)) (name : List ℕ) (at count : ℕ) (modes : List Mode) (mode : Mode) (before now after : Reading)
-    → drop at names ≡ name ∷ drop (at + 1) names
-    → ReadSoFar most names at count modes before now → ReadsMode most count (at + 1) name (Ok mode) now after
-    → ReadSoFar most names (at + 1) (count + length mode.clocks) (modes ++ mode ∷ []) before after
-more_read most names name at count modes mode before now after here so_far reads =
+more_read : (most first : ℕ) (names : List (List ℕ)) (name : List ℕ) (at place next count : ℕ) (modes : List Mode) (mode : Mode) (before now after : Reading)
+    → drop at names ≡ name ∷ drop (at + 1) names → next ≡ suc place
+    → ReadSoFar most first names at place count modes before now → ReadsMode most count place name (Ok mode) now after
+    → ReadSoFar most first names (at + 1) next (count + length mode.clocks) (modes ++ mode ∷ []) before after
+more_read most first names name at place next count modes mode before now after here e so_far reads =
     let says : SaysFile most count (bytes_of before.files name) (Ok mode) = subst (λ (files : List NamedBytes). SaysFile most count (bytes_of files name) (Ok mode)) so_far.files reads.2 in
     record {
       files = reads.0 ∙ so_far.files;
       say = λ outcome others.
-          let next : SayModes most before.files (suc (at + 1)) (count + length mode.clocks) (drop (at + 1) names) outcome =
-          subst (λ (place : ℕ). SayModes most before.files place (count + length mode.clocks) (drop (at + 1) names) outcome) (add-one (at + 1)) others in
-          let all = so_far.say (with_first mode outcome) (subst (λ (left : List (List ℕ)). SayModes most before.files (at + 1) count left (with_first mode outcome)) (sym here) (Ok mode, says, (outcome, next, refl))) in
-          subst (SayModes most before.files 1 0 names) (in_front-push modes mode outcome) all;
+        let there : SayModes most before.files (suc place) (count + length mode.clocks) (drop (at + 1) names) outcome =
+          subst (λ (n : ℕ). SayModes most before.files n (count + length mode.clocks) (drop (at + 1) names) outcome) e others in
+        let all = so_far.say (with_first mode outcome) (subst (λ (left : List (List ℕ)). SayModes most before.files place count left (with_first mode outcome)) (sym here) (Ok mode, says, (outcome, there, refl))) in
+        subst (SayModes most before.files first 0 names) (in_front-push modes mode outcome) all;
       fails = λ failed begun others.
-          let from_here : FailsReading most before.files (at + 1 + 1) (count + length mode.clocks) (Some name) (drop (at + 1) names) failed begun =
-          subst (λ (b : Option (List ℕ)). FailsReading most before.files (at + 1 + 1) (count + length mode.clocks) b (drop (at + 1) names) failed begun) reads.1 others in
-          let next : FailsReading most before.files (suc (at + 1)) (count + length mode.clocks) (Some name) (drop (at + 1) names) failed begun =
-          subst (λ (place : ℕ). FailsReading most before.files place (count + length mode.clocks) (Some name) (drop (at + 1) names) failed begun) (add-one (at + 1)) from_here in
-          so_far.fails failed begun (subst (λ (left : List (List ℕ)). FailsReading most before.files (at + 1) count now.begun left failed begun) (sym here) (inr (mode, says, next)));
+        let from_here : FailsReading most before.files next (count + length mode.clocks) (Some name) (drop (at + 1) names) failed begun =
+          subst (λ (b : Option (List ℕ)). FailsReading most before.files next (count + length mode.clocks) b (drop (at + 1) names) failed begun) reads.1 others in
+        let there : FailsReading most before.files (suc place) (count + length mode.clocks) (Some name) (drop (at + 1) names) failed begun =
+          subst (λ (n : ℕ). FailsReading most before.files n (count + length mode.clocks) (Some name) (drop (at + 1) names) failed begun) e from_here in
+        so_far.fails failed begun (subst (λ (left : List (List ℕ)). FailsReading most before.files place count now.begun left failed begun) (sym here) (inr (mode, says, there)));
     }
 
-pub ReadSoFar-more : (most : ℕ) (names : List (List ℕ)) (name : List ℕ) (at count : ℕ) (modes : List Mode) (mode : Mode) (before now after : Option Reading)
-    → drop at names ≡ name ∷ drop (at + 1) names
-    → OnTold (ReadSoFar most names at count modes) before now → OnTold (ReadsMode most count (at + 1) name (Ok mode)) now after
-    → OnTold (ReadSoFar most names (at + 1) (count + length mode.clocks) (modes ++ mode ∷ [])) before after
-ReadSoFar-more most names name at count modes mode None None None here so_far reads = tt
-ReadSoFar-more most names name at count modes mode None None (Some after) here so_far reads = reads
-ReadSoFar-more most names name at count modes mode None (Some now) after here so_far reads = absurd so_far
-ReadSoFar-more most names name at count modes mode (Some before) None after here so_far reads = absurd so_far
-ReadSoFar-more most names name at count modes mode (Some before) (Some now) None here so_far reads = reads
-ReadSoFar-more most names name at count modes mode (Some before) (Some now) (Some after) here so_far reads =
-    more_read most names name at count modes mode before now after here so_far reads
+pub ReadSoFar-more : (most first : ℕ) (names : List (List ℕ)) (name : List ℕ) (at place next count : ℕ) (modes : List Mode) (mode : Mode) (before now after : Option Reading)
+    → drop at names ≡ name ∷ drop (at + 1) names → next ≡ suc place
+    → OnTold (ReadSoFar most first names at place count modes) before now → OnTold (ReadsMode most count place name (Ok mode)) now after
+    → OnTold (ReadSoFar most first names (at + 1) next (count + length mode.clocks) (modes ++ mode ∷ [])) before after
+ReadSoFar-more most first names name at place next count modes mode None None None here e so_far reads = tt
+ReadSoFar-more most first names name at place next count modes mode None None (Some after) here e so_far reads = reads
+ReadSoFar-more most first names name at place next count modes mode None (Some now) after here e so_far reads = absurd so_far
+ReadSoFar-more most first names name at place next count modes mode (Some before) None after here e so_far reads = absurd so_far
+ReadSoFar-more most first names name at place next count modes mode (Some before) (Some now) None here e so_far reads = reads
+ReadSoFar-more most first names name at place next count modes mode (Some before) (Some now) (Some after) here e so_far reads =
+    more_read most first names name at place next count modes mode before now after here e so_far reads
 
 -- what stops the reading of one file stops the reading of all
-stops : (most : ℕ) (names : List (List ℕ)) (name : List ℕ) (at count : ℕ) (modes : List Mode) (answer : Status) (before now after : Reading)
-    → drop at names ≡ name ∷ drop (at + 1) names
-    → ReadSoFar most names at count modes before now → ReadsMode most count (at + 1) name (Err answer) now after
-    → ReadsModes most names (Err answer) before after
-stops most names name at count modes (status.Source fault) before now after here so_far reads =
-    let says : SaysFile most count (bytes_of before.files name) (Err fault.kind) = subst (λ (files : List NamedBytes). SaysFile most count (bytes_of files name) (Err fault.kind)) so_far.files reads.2 in
-    (reads.0 ∙ so_far.files, so_far.say (Err fault) (subst (λ (left : List (List ℕ)). SayModes most before.files (at + 1) count left (Err fault)) (sym here) (Err fault.kind, says, (reads.1, refl))))
-stops most names name at count modes (status.ReadFault failed) before now after here so_far reads =
-    (reads.0 ∙ so_far.files, so_far.fails failed after.begun (subst (λ (left : List (List ℕ)). FailsReading most before.files (at + 1) count now.begun left failed after.begun) (sym here) (inl (reads.1, reads.2))))
-stops most names name at count modes status.Done before now after here so_far reads = reads ∙ so_far.files
-stops most names name at count modes status.Usage before now after here so_far reads = reads ∙ so_far.files
-stops most names name at count modes status.WriteFault before now after here so_far reads = reads ∙ so_far.files
-stops most names name at count modes status.NoMemory before now after here so_far reads = reads ∙ so_far.files
+stops : (line : CommandLine) (name : List ℕ) (at place count : ℕ) (modes : List Mode) (answer : Status) (before now after : Reading)
+    → drop at (files_of line) ≡ name ∷ drop (at + 1) (files_of line)
+    → ReadSoFar (most_clocks line) (first_place line) (files_of line) at place count modes before now
+    → ReadsMode (most_clocks line) count place name (Err answer) now after
+    → ReadsModes line (Err answer) before after
+stops line name at place count modes (status.Source fault) before now after here so_far reads =
+    let says : SaysFile (most_clocks line) count (bytes_of before.files name) (Err fault.kind) = subst (λ (files : List NamedBytes). SaysFile (most_clocks line) count (bytes_of files name) (Err fault.kind)) so_far.files reads.2 in
+    (reads.0 ∙ so_far.files, so_far.say (Err fault) (subst (λ (left : List (List ℕ)). SayModes (most_clocks line) before.files place count left (Err fault)) (sym here) (Err fault.kind, says, (reads.1, refl))))
+stops line name at place count modes (status.ReadFault failed) before now after here so_far reads =
+    (reads.0 ∙ so_far.files, so_far.fails failed after.begun (subst (λ (left : List (List ℕ)). FailsReading (most_clocks line) before.files place count now.begun left failed after.begun) (sym here) (inl (reads.1, reads.2))))
+stops line name at place count modes status.Done before now after here so_far reads = reads ∙ so_far.files
+stops line name at place count modes status.Usage before now after here so_far reads = reads ∙ so_far.files
+stops line name at place count modes status.WriteFault before now after here so_far reads = reads ∙ so_far.files
+stops line name at place count modes status.NoMemory before now after here so_far reads = reads ∙ so_far.files
+stops line name at place count modes (status.TooLarge bytes) before now after here so_far reads = reads ∙ so_far.files
 
-pub ReadSoFar-stops : (most : ℕ) (names : List (List ℕ)) (name : List ℕ) (at count : ℕ) (modes : List Mode) (answer : Status) (before now after : Option Reading)
-    → drop at names ≡ name ∷ drop (at + 1) names
-    → OnTold (ReadSoFar most names at count modes) before now → OnTold (ReadsMode most count (at + 1) name (Err answer)) now after
-    → OnTold (ReadsModes most names (Err answer)) before after
-ReadSoFar-stops most names name at count modes answer None None None here so_far reads = tt
-ReadSoFar-stops most names name at count modes answer None None (Some after) here so_far reads = reads
-ReadSoFar-stops most names name at count modes answer None (Some now) after here so_far reads = absurd so_far
-ReadSoFar-stops most names name at count modes answer (Some before) None after here so_far reads = absurd so_far
-ReadSoFar-stops most names name at count modes answer (Some before) (Some now) None here so_far reads = reads
-ReadSoFar-stops most names name at count modes answer (Some before) (Some now) (Some after) here so_far reads =
-    stops most names name at count modes answer before now after here so_far reads
-
--- want of memory stops it too
-pub ReadSoFar-no_memory : (most : ℕ) (names : List (List ℕ)) (name : List ℕ) (at count place : ℕ) (modes : List Mode) (mode : Mode) (before now after : Option Reading)
-    → OnTold (ReadSoFar most names at count modes) before now → OnTold (ReadsMode most count place name (Ok mode)) now after
-    → OnTold (ReadsModes most names (Err status.NoMemory)) before after
-ReadSoFar-no_memory most names name at count place modes mode None None None so_far reads = tt
-ReadSoFar-no_memory most names name at count place modes mode None None (Some after) so_far reads = reads
-ReadSoFar-no_memory most names name at count place modes mode None (Some now) after so_far reads = absurd so_far
-ReadSoFar-no_memory most names name at count place modes mode (Some before) None after so_far reads = absurd so_far
-ReadSoFar-no_memory most names name at count place modes mode (Some before) (Some now) None so_far reads = reads
-ReadSoFar-no_memory most names name at count place modes mode (Some before) (Some now) (Some after) so_far reads = reads.0 ∙ so_far.files
+pub ReadSoFar-stops : (line : CommandLine) (name : List ℕ) (at place count : ℕ) (modes : List Mode) (answer : Status) (before now after : Option Reading)
+    → drop at (files_of line) ≡ name ∷ drop (at + 1) (files_of line)
+    → OnTold (ReadSoFar (most_clocks line) (first_place line) (files_of line) at place count modes) before now
+    → OnTold (ReadsMode (most_clocks line) count place name (Err answer)) now after
+    → OnTold (ReadsModes line (Err answer)) before after
+ReadSoFar-stops line name at place count modes answer None None None here so_far reads = tt
+ReadSoFar-stops line name at place count modes answer None None (Some after) here so_far reads = reads
+ReadSoFar-stops line name at place count modes answer None (Some now) after here so_far reads = absurd so_far
+ReadSoFar-stops line name at place count modes answer (Some before) None after here so_far reads = absurd so_far
+ReadSoFar-stops line name at place count modes answer (Some before) (Some now) None here so_far reads = reads
+ReadSoFar-stops line name at place count modes answer (Some before) (Some now) (Some after) here so_far reads =
+    stops line name at place count modes answer before now after here so_far reads
 
 -- where no file is left, all files say the modes
-pub ReadSoFar-all : (most : ℕ) (names : List (List ℕ)) (at count : ℕ) (modes : List Mode) (before now : Option Reading)
-    → drop at names ≡ [] → OnTold (ReadSoFar most names at count modes) before now → OnTold (ReadsModes most names (Ok modes)) before now
-ReadSoFar-all most names at count modes None None none so_far = tt
-ReadSoFar-all most names at count modes None (Some now) none so_far = so_far
-ReadSoFar-all most names at count modes (Some before) None none so_far = so_far
-ReadSoFar-all most names at count modes (Some before) (Some now) none so_far = (
-  so_far.files,
-  subst (λ (all : List Mode). SayModes most before.files 1 0 names (Ok all)) (append-nil modes)
-      (so_far.say (Ok []) (subst (λ (left : List (List ℕ)). SayModes most before.files (at + 1) count left (Ok [])) (sym none) refl)),
-)
+pub ReadSoFar-all : (line : CommandLine) (at place count : ℕ) (modes : List Mode) (before now : Option Reading)
+    → drop at (files_of line) ≡ []
+    → OnTold (ReadSoFar (most_clocks line) (first_place line) (files_of line) at place count modes) before now
+    → OnTold (ReadsModes line (Ok modes)) before now
+ReadSoFar-all line at place count modes None None none so_far = tt
+ReadSoFar-all line at place count modes None (Some now) none so_far = so_far
+ReadSoFar-all line at place count modes (Some before) None none so_far = so_far
+ReadSoFar-all line at place count modes (Some before) (Some now) none so_far =
+    (so_far.files, subst (λ (all : List Mode). SayModes (most_clocks line) before.files (first_place line) 0 (files_of line) (Ok all)) (append-nil modes)
+      (so_far.say (Ok []) (subst (λ (left : List (List ℕ)). SayModes (most_clocks line) before.files place count left (Ok [])) (sym none) refl)))

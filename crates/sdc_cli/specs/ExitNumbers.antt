@@ -2,7 +2,7 @@
 -- 0 is reserved for work that is done and found nothing; the numbers never change their meaning.
 use Rattle.std.specs.Prelude.{ℕ}
 use Rattle.sdc_model.specs.declared.answers.Status.{Status}
-use Rattle.sdc_model.specs.declared.answers.Status.TheVariants.{Done, Usage, Source, ReadFault, WriteFault, NoMemory}
+use Rattle.sdc_model.specs.declared.answers.Status.TheVariants.{Done, Usage, Source, ReadFault, WriteFault, NoMemory, TooLarge}
 
 -- the number that the tool exits with
 abbrev pub exit_of : Status → ℕ
@@ -12,3 +12,4 @@ exit_of (Source _) = 3
 exit_of (ReadFault _) = 7
 exit_of WriteFault = 8
 exit_of NoMemory = 9
+exit_of (TooLarge _) = 10

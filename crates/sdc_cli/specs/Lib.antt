@@ -1,2 +1,4 @@
 pub mod ExitNumbers
 pub mod Refusals
+pub mod MergeOutput
+pub mod Outputs

@@ -17,6 +17,7 @@ pub fn exit_number(status: &Status) -> u8
         Status::ReadFault(_) => 7,
         Status::WriteFault => 8,
         Status::NoMemory => 9,
+        Status::TooLarge(_) => 10,
     }
 }
 
@@ -39,6 +40,7 @@ mod tests {
             (Status::ReadFault(1), 7),
             (Status::WriteFault, 8),
             (Status::NoMemory, 9),
+            (Status::TooLarge(268_435_457), 10),
         ] {
             assert_eq!(rt; exit_number(&status), number, "{status:?}");
         }

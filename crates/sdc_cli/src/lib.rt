@@ -14,6 +14,7 @@ mod file_inputs;
 mod file_outputs;
 mod mode_file;
 mod mode_files;
+mod outputs;
 mod tool;
 
 pub use exit_numbers::exit_number;

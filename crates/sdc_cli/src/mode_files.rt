@@ -1,38 +1,68 @@
 //! The mode files of a command line, read one after the other.
 
 ghost use Rattle.std.specs.Prelude.{◌≡◌, ◌≤◌, ◌<◌, ◌^◌, ◌+◌, length, IfOk, IfErr};
-ghost use Rattle.sdc_model.specs.Answers.{OnTold, ReadsMode, ReadsModes, StopsAt, StopsReading};
+ghost use Rattle.sdc_model.specs.Answers.{files_of, first_place, most_clocks, OnTold, ReadsMode, ReadsModes, StopsAt, StopsReading};
 ghost use Rattle.sdc_model.specs.EdgesText.{HaveTimes, ModesHaveTimes};
 
 use crate::mode_file::read_mode;
 use sdc_base::{Inputs, List, ReadStop, Stop, Text, read_all};
-use sdc_model::{Fault, Kind, Mode, SdcKind, Status};
+use sdc_model::{CommandLine, Fault, Kind, Mode, SdcKind, Status};
 use std::alloc::Global;
 
-/// The modes that the files of these names say, behind one another, with at most `most` clocks in all; or
-/// the status that names what stopped the reading. The first file's word has place 1.
+/// The modes that the files of a command line say; or the status that names what stopped the reading.
 pub fn read_modes<I: Inputs>(
     alloc: Global,
-    most: usize,
-    names: &[Text],
+    line: &CommandLine,
     inputs: &mut I,
 ) -> Result<List<Mode>, Status>
-    requires few { length names.now + 1 < 2 ^ 32 }
-    ensures told { OnTold (ReadsModes most names.now result) (I.told inputs.old) (I.told inputs.new) }
+    requires few { length (files_of line.now) ≤ 16 }
+    ensures told { OnTold (ReadsModes line.now result) (I.told inputs.old) (I.told inputs.new) }
     ensures stops { IfErr result
-        (StopsReading names.now (I.faults inputs.old) (I.faults inputs.new)) }
+        (StopsReading line.now (I.faults inputs.old) (I.faults inputs.new)) }
     ensures counts { I.faults inputs.old ≤ I.faults inputs.new }
-    ensures each { IfOk result (λ modes. length modes ≡ length names.now) }
+    ensures each { IfOk result (λ modes. length modes ≡ length (files_of line.now)) }
     ensures timed { IfOk result ModesHaveTimes }
 {
+    let most = most_clocks(line);
+    let first = first_place(line);
     let mut modes = List::new(alloc);
     let mut count = 0;
-    for (at, name) in names.iter().enumerate() {
-        let mode = read_file(alloc, most, count, at as u32 + 1, name.as_str(), inputs)?;
+    for (at, name) in files_of(line).iter().enumerate() {
+        let mode = read_file(alloc, most, count, first + at as u32, name.as_str(), inputs)?;
         count += mode.clocks.len();
         modes.push(mode)?;
     }
     Ok(modes)
+}
+
+/// The most clocks in the mode files of a command line.
+fn most_clocks(line: &CommandLine) -> usize
+    ensures { result ≡ most_clocks line.now }
+{
+    match line {
+        CommandLine::Edges(_) => 1024,
+        CommandLine::Merge(_, _) => 16384,
+    }
+}
+
+/// The place of the first mode file among the words of a command line.
+fn first_place(line: &CommandLine) -> u32
+    ensures { result ≡ first_place line.now }
+{
+    match line {
+        CommandLine::Edges(_) => 1,
+        CommandLine::Merge(_, _) => 5,
+    }
+}
+
+/// The mode files of a command line.
+pub fn files_of(line: &CommandLine) -> &[Text]
+    ensures { result.now ≡ files_of line.now }
+{
+    match line {
+        CommandLine::Edges(files) => files.as_slice(),
+        CommandLine::Merge(_, modes) => modes.as_slice(),
+    }
 }
 
 /// The mode that the file of a name says, whose word stands at this place, behind so many clocks of other

@@ -1,25 +1,25 @@
 //! The run of the tool.
 
-ghost use Rattle.std.specs.Prelude.{◌≡◌, ◌≤◌, length, Some, IfErr};
-ghost use Rattle.sdc_model.specs.CommandLine.{edges_files, words_of};
-ghost use Rattle.sdc_model.specs.Answers.{OnTold, ComputesEdges, StopsReading, IsEdgesText, IsEdgesFault, UsageFits, CauseFits, ReadFaultFits, WriteFaultFits, LeavesReading, LeavesWritten};
+ghost use Rattle.std.specs.Prelude.{◌≡◌, ◌≤◌, length, IfErr, Some, Err};
+ghost use Rattle.sdc_model.specs.CommandLine.{command_line, words_of};
+ghost use Rattle.sdc_model.specs.Answers.{OnTold, OnModes, IsLineFault, UsageFits, CauseFits, ReadFaultFits, WriteFaultFits, LeavesReading, LeavesWritten, made_by, made_file, files_of, Writes, EndsWriting, WritesBoth};
+ghost use Rattle.sdc_base.specs.Counting.{Rose};
+ghost use Rattle.sdc_cli.specs.Outputs.{IsOutputOf, IsTooLargeOf, ComputesLine, StopsComputing};
 
-use crate::command_line::edges_files;
-use crate::edges_report::report_text;
+use crate::command_line::command_line;
 use crate::mode_files::read_modes;
-use sdc_base::{Channel, Inputs, List, Outputs, Refusal, Text, write_all};
-use sdc_model::Status;
+use crate::outputs::output_of;
+use sdc_base::{Channel, Inputs, Outputs, Refusal, Text, write_all};
+use sdc_model::{CommandLine, Output, Status};
 use std::alloc::Global;
-
-/// The most clocks in the files of one run of `edges`.
-const MOST_CLOCKS: usize = 1024;
 
 /// Runs the tool on the words behind the program's name. All is computed before the first call on the
 /// outputs.
 ///
 /// The answers are this project's own: `Usage` exactly where the words are no command line, `Source` with the
-/// first fault of a file, `ReadFault` and `WriteFault` only where the inputs or outputs counted a fault,
-/// `Done` where the report was written whole, and `NoMemory` wherever memory ran out.
+/// first fault of a file, `TooLarge` where the merged text would have more than 268,435,456 bytes, `ReadFault`
+/// and `WriteFault` only where the inputs or outputs counted a fault, `Done` where all was written whole, and
+/// `NoMemory` wherever memory ran out.
 pub fn run<I: Inputs, O: Outputs>(
     alloc: Global,
     words: &[String],
@@ -27,73 +27,105 @@ pub fn run<I: Inputs, O: Outputs>(
     outputs: &mut O,
 ) -> Status
     // Usage exactly where the words are no command line.
-    ensures usage { UsageFits (edges_files (words_of words.now)) result }
+    ensures usage { UsageFits (command_line (words_of words.now)) result }
 
-    // Done and WriteFault only where there is a report; Source only for the first fault.
-    ensures cause { CauseFits (IsEdgesText (I.told inputs.old) (edges_files (words_of words.now)))
-        (IsEdgesFault (I.told inputs.old) (edges_files (words_of words.now))) result }
+    // Done and WriteFault only where there is an output; Source and TooLarge only for what they name.
+    ensures cause { let line = command_line (words_of words.now) in
+        CauseFits (λ output. OnModes (λ l modes. IsOutputOf l modes output) (I.told inputs.old) line)
+            (IsLineFault (I.told inputs.old) line)
+            (λ bytes. OnModes (λ l modes. IsTooLargeOf l modes bytes) (I.told inputs.old) line) result }
 
     // ReadFault and WriteFault only where a count rose.
-    ensures read_fault { ReadFaultFits (edges_files (words_of words.now))
+    ensures read_fault { ReadFaultFits (command_line (words_of words.now))
         (I.faults inputs.old) (I.faults inputs.new) result }
     ensures write_fault { WriteFaultFits (O.faults outputs.old) (O.faults outputs.new) result }
 
     // What stands in the inputs and in the outputs after it.
-    ensures reads { OnTold (LeavesReading (edges_files (words_of words.now)) result)
+    ensures reads { OnTold (LeavesReading (command_line (words_of words.now)) result)
         (I.told inputs.old) (I.told inputs.new) }
-    ensures writes { OnTold
-        (LeavesWritten (IsEdgesText (I.told inputs.old) (edges_files (words_of words.now))) result)
-        (O.told outputs.old) (O.told outputs.new) }
+    ensures writes { let line = command_line (words_of words.now) in
+        OnTold (LeavesWritten (made_by line)
+            (λ output. OnModes (λ l modes. IsOutputOf l modes output) (I.told inputs.old) line) result)
+            (O.told outputs.old) (O.told outputs.new) }
 {
-    match edges_files(alloc, words) {
-        Ok(Some(files)) => run_edges(alloc, files.as_slice(), inputs, outputs),
+    match command_line(alloc, words) {
+        Ok(Some(line)) => run_line(alloc, &line, inputs, outputs),
         Ok(None) => Status::Usage,
         Err(_) => Status::NoMemory,
     }
 }
 
-/// Runs `edges` over the files of these names.
-fn run_edges<I: Inputs, O: Outputs>(
+/// Runs a command line.
+fn run_line<I: Inputs, O: Outputs>(
     alloc: Global,
-    files: &[Text],
+    line: &CommandLine,
     inputs: &mut I,
     outputs: &mut O,
 ) -> Status
-    requires { length files.now ≤ 16 }
-    ensures usage { UsageFits (Some files.now) result }
-    ensures cause { CauseFits (IsEdgesText (I.told inputs.old) (Some files.now))
-        (IsEdgesFault (I.told inputs.old) (Some files.now)) result }
-    ensures read_fault { ReadFaultFits (Some files.now)
+    requires { length (files_of line.now) ≤ 16 }
+    ensures usage { UsageFits (Some line.now) result }
+    ensures cause {
+        CauseFits (λ output. OnModes (λ l modes. IsOutputOf l modes output) (I.told inputs.old) (Some line.now))
+            (IsLineFault (I.told inputs.old) (Some line.now))
+            (λ bytes. OnModes (λ l modes. IsTooLargeOf l modes bytes) (I.told inputs.old) (Some line.now)) result }
+    ensures read_fault { ReadFaultFits (Some line.now)
         (I.faults inputs.old) (I.faults inputs.new) result }
     ensures write_fault { WriteFaultFits (O.faults outputs.old) (O.faults outputs.new) result }
-    ensures reads { OnTold (LeavesReading (Some files.now) result)
+    ensures reads { OnTold (LeavesReading (Some line.now) result)
         (I.told inputs.old) (I.told inputs.new) }
-    ensures writes { OnTold (LeavesWritten (IsEdgesText (I.told inputs.old) (Some files.now)) result)
-        (O.told outputs.old) (O.told outputs.new) }
+    ensures writes {
+        OnTold (LeavesWritten (made_file line.now)
+            (λ output. OnModes (λ l modes. IsOutputOf l modes output) (I.told inputs.old) (Some line.now)) result)
+            (O.told outputs.old) (O.told outputs.new) }
 {
-    let text = match edges_report(alloc, files, inputs) {
-        Ok(text) => text,
-        Err(status) => return status,
+    match line_output(alloc, line, inputs) {
+        Ok(output) => write_output(line, &output, outputs),
+        Err(status) => status,
+    }
+}
+
+/// The output of a command line, or the status that names what stopped it.
+fn line_output<I: Inputs>(
+    alloc: Global,
+    line: &CommandLine,
+    inputs: &mut I,
+) -> Result<Output, Status>
+    requires { length (files_of line.now) ≤ 16 }
+    ensures told { OnTold (ComputesLine line.now result) (I.told inputs.old) (I.told inputs.new) }
+    ensures stops { IfErr result
+        (StopsComputing line.now (I.faults inputs.old) (I.faults inputs.new)) }
+{
+    let modes = read_modes(alloc, line, inputs)?;
+    output_of(alloc, line, modes.as_slice())
+}
+
+/// Writes the output of a command line, the merged file before the report.
+fn write_output<O: Outputs>(line: &CommandLine, output: &Output, outputs: &mut O) -> Status
+    ensures writes { OnTold (Writes (made_file line.now) output.now result)
+        (O.told outputs.old) (O.told outputs.new) }
+    ensures write_fault { WriteFaultFits (O.faults outputs.old) (O.faults outputs.new) result }
+    ensures ends { EndsWriting result }
+{
+    let written = match line {
+        CommandLine::Edges(_) => write_all(outputs, Channel::Report, output.report.as_slice()),
+        CommandLine::Merge(out, _) => write_both(out, output, outputs),
     };
-    match write_all(outputs, Channel::Report, text.as_slice()) {
+    match written {
         Ok(()) => Status::Done,
         Err(Refusal::Failed) => Status::WriteFault,
         Err(Refusal::NoMemory) => Status::NoMemory,
     }
 }
 
-/// The report of the files of these names, or the status that names what stopped it.
-fn edges_report<I: Inputs>(
-    alloc: Global,
-    files: &[Text],
-    inputs: &mut I,
-) -> Result<List<u8>, Status>
-    requires { length files.now ≤ 16 }
-    ensures told { OnTold (ComputesEdges files.now result) (I.told inputs.old) (I.told inputs.new) }
-    ensures stops { IfErr result
-        (StopsReading files.now (I.faults inputs.old) (I.faults inputs.new)) }
+/// Makes the merged file and writes it whole, then the report.
+fn write_both<O: Outputs>(out: &Text, output: &Output, outputs: &mut O) -> Result<(), Refusal>
+    ensures writes { OnTold (WritesBoth out.now output.now result)
+        (O.told outputs.old) (O.told outputs.new) }
+    ensures counts { O.faults outputs.old ≤ O.faults outputs.new }
+    ensures failed { result ≡ Err Refusal.Failed
+        → Rose (O.faults outputs.old) (O.faults outputs.new) }
 {
-    let modes = read_modes(alloc, MOST_CLOCKS, files, inputs)?;
-    let text = report_text(alloc, files, modes.as_slice())?;
-    Ok(List::from(text))
+    outputs.create(out.as_str())?;
+    write_all(outputs, Channel::Merged, output.merged.as_slice())?;
+    write_all(outputs, Channel::Report, output.report.as_slice())
 }

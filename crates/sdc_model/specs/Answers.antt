@@ -1,59 +1,77 @@
 -- What an answer of a run says of its words, of the files that were read and of what was written. This project's own.
 -- Want of memory may stand anywhere; every other answer has its cause. Where an object tells nothing, its counts alone speak.
-use Rattle.std.specs.Prelude.{◌≡◌, ◌+◌, ◌≤◌, ◌⊎◌, ℕ, suc, List, [], ◌∷◌, length, Option, Some, None, Result, Ok, Err}
+use Rattle.std.specs.Prelude.{◌≡◌, ◌+◌, ◌≤◌, ◌⊎◌, ◌++◌, ℕ, suc, List, [], ◌∷◌, length, Option, Some, None, Result, Ok, Err}
 use Rattle.sdc_base.specs.declared.outside.NamedBytes.{NamedBytes}
 use Rattle.sdc_base.specs.declared.outside.Channel.TheVariants.{Report}
+use Rattle.sdc_base.specs.declared.outside.Refusal.{Refusal}
 use Rattle.sdc_base.specs.Counting.{Rose}
 use Rattle.sdc_base.specs.Files.{Reading, bytes_of}
 use Rattle.sdc_base.specs.Channels.{Written, appended, AppendsFront}
 use Rattle.sdc_model.specs.declared.answers.Status.{Status}
 use Rattle.sdc_model.specs.declared.answers.Status.TheVariants as status
+use Rattle.sdc_model.specs.declared.command_lines.CommandLine.{CommandLine}
+use Rattle.sdc_model.specs.declared.command_lines.CommandLine.TheVariants.{Edges, Merge}
+use Rattle.sdc_model.specs.declared.command_lines.Output.{Output}
 use Rattle.sdc_model.specs.declared.kinds.Fault.{Fault}
 use Rattle.sdc_model.specs.declared.modes.Mode.{Mode}
 use Rattle.sdc_model.specs.ModeFiles.{SayModes, SaysFile}
-use Rattle.sdc_model.specs.EdgesText.{AreReports}
 
--- the most clocks in the files of one run of `edges`
-abbrev pub most_edges_clocks : ℕ
-most_edges_clocks = 1024
+-- the mode files of a command line: their names, the place of the first of them among the words, and the most clocks
+abbrev pub files_of : CommandLine → List (List ℕ)
+files_of (Edges files) = files
+files_of (Merge out modes) = modes
 
--- what the files of `edges` say: their modes, or the first fault
-abbrev pub EdgesModes : List NamedBytes → List (List ℕ) → Result (List Mode) Fault → Type 0
-EdgesModes files names outcome = SayModes most_edges_clocks files 1 0 names outcome
+abbrev pub first_place : CommandLine → ℕ
+first_place (Edges files) = 1
+first_place (Merge out modes) = 5
 
--- the report of `edges` over files of these names: where the words are such a command line and the files say modes
-abbrev pub IsEdgesText : Option Reading → Option (List (List ℕ)) → List ℕ → Type 0
-IsEdgesText told None text = ⊥
-IsEdgesText None (Some names) text = Unit {0}
-IsEdgesText (Some reading) (Some names) text =
-    (modes : List Mode) × EdgesModes reading.files names (Ok modes) × AreReports names modes text
+abbrev pub most_clocks : CommandLine → ℕ
+most_clocks (Edges files) = 1024
+most_clocks (Merge out modes) = 16384
 
--- the first fault of the files of `edges`
-abbrev pub IsEdgesFault : Option Reading → Option (List (List ℕ)) → Fault → Type 0
-IsEdgesFault told None fault = ⊥
-IsEdgesFault None (Some names) fault = Unit {0}
-IsEdgesFault (Some reading) (Some names) fault = EdgesModes reading.files names (Err fault)
+-- the file that a command line has made, where it has one made
+abbrev pub made_file : CommandLine → Option (List ℕ)
+made_file (Edges files) = None
+made_file (Merge out modes) = Some out
+
+-- what the mode files of a command line say: their modes, or the first fault
+abbrev pub LineModes : CommandLine → List NamedBytes → Result (List Mode) Fault → Type 0
+LineModes line files outcome = SayModes (most_clocks line) files (first_place line) 0 (files_of line) outcome
+
+-- A fact about a command line and the modes that its files say: where there is one, and where the files are told.
+abbrev pub OnModes : (CommandLine → List Mode → Type 0) → Option Reading → Option CommandLine → Type 0
+OnModes Fact told None = ⊥
+OnModes Fact None (Some line) = Unit {0}
+OnModes Fact (Some reading) (Some line) = (modes : List Mode) × LineModes line reading.files (Ok modes) × Fact line modes
+
+-- the first fault of the files of a command line
+abbrev pub IsLineFault : Option Reading → Option CommandLine → Fault → Type 0
+IsLineFault told None fault = ⊥
+IsLineFault None (Some line) fault = Unit {0}
+IsLineFault (Some reading) (Some line) fault = LineModes line reading.files (Err fault)
 
 -- Usage exactly where the words are no command line
-abbrev pub UsageFits : Option (List (List ℕ)) → Status → Type 0
+abbrev pub UsageFits : Option CommandLine → Status → Type 0
 UsageFits None status.Usage = Unit {0}
 UsageFits None status.NoMemory = Unit {0}
 UsageFits None _ = ⊥
-UsageFits (Some names) status.Usage = ⊥
-UsageFits (Some names) _ = Unit {0}
+UsageFits (Some line) status.Usage = ⊥
+UsageFits (Some line) _ = Unit {0}
 
--- Done and WriteFault only where there is a report; Source only for the first fault
-abbrev pub CauseFits : (List ℕ → Type 0) → (Fault → Type 0) → Status → Type 0
-CauseFits IsText IsFault status.Done = (text : List ℕ) × IsText text
-CauseFits IsText IsFault status.WriteFault = (text : List ℕ) × IsText text
-CauseFits IsText IsFault (status.Source fault) = IsFault fault
-CauseFits IsText IsFault _ = Unit {0}
+-- Done and WriteFault only where there is an output; Source only for the first fault, TooLarge only for this length
+abbrev pub CauseFits : (Output → Type 0) → (Fault → Type 0) → (ℕ → Type 0) → Status → Type 0
+CauseFits IsOutput IsFault IsTooLarge status.Done = (output : Output) × IsOutput output
+CauseFits IsOutput IsFault IsTooLarge status.WriteFault = (output : Output) × IsOutput output
+CauseFits IsOutput IsFault IsTooLarge (status.Source fault) = IsFault fault
+CauseFits IsOutput IsFault IsTooLarge (status.TooLarge bytes) = IsTooLarge bytes
+CauseFits IsOutput IsFault IsTooLarge _ = Unit {0}
 
 -- ReadFault only where the count of the inputs rose, with the place of a file
-abbrev pub ReadFaultFits : Option (List (List ℕ)) → ℕ → ℕ → Status → Type 0
+abbrev pub ReadFaultFits : Option CommandLine → ℕ → ℕ → Status → Type 0
 ReadFaultFits None before after (status.ReadFault place) = ⊥
-ReadFaultFits (Some names) before after (status.ReadFault place) = Rose before after × (1 ≤ place) × (place ≤ length names)
-ReadFaultFits files before after _ = Unit {0}
+ReadFaultFits (Some line) before after (status.ReadFault place) =
+    Rose before after × (first_place line ≤ place) × (place + 1 ≤ first_place line + length (files_of line))
+ReadFaultFits line before after _ = Unit {0}
 
 -- WriteFault only where the count of the outputs rose
 abbrev pub WriteFaultFits : ℕ → ℕ → Status → Type 0
@@ -80,15 +98,14 @@ ReadsMode most count place name (Err (status.ReadFault failed)) before after =
     (after.files ≡ before.files) × (failed ≡ place) × ((after.begun ≡ Some name) ⊎ (after.begun ≡ before.begun))
 ReadsMode most count place name (Err _) before after = after.files ≡ before.files
 
--- What reading the files of these names in turn answers: their modes, or the first fault. The files stay.
-abbrev pub ReadsModes : ℕ → List (List ℕ) → Result (List Mode) Status → Reading → Reading → Type 0
-ReadsModes most names (Ok modes) before after =
-    (after.files ≡ before.files) × SayModes most before.files 1 0 names (Ok modes)
-ReadsModes most names (Err (status.Source fault)) before after =
-    (after.files ≡ before.files) × SayModes most before.files 1 0 names (Err fault)
-ReadsModes most names (Err (status.ReadFault place)) before after =
-    (after.files ≡ before.files) × FailsReading most before.files 1 0 before.begun names place after.begun
-ReadsModes most names (Err _) before after = after.files ≡ before.files
+-- What reading the mode files of a command line answers: their modes, or the first fault. The files stay.
+abbrev pub ReadsModes : CommandLine → Result (List Mode) Status → Reading → Reading → Type 0
+ReadsModes line (Ok modes) before after = (after.files ≡ before.files) × LineModes line before.files (Ok modes)
+ReadsModes line (Err (status.Source fault)) before after = (after.files ≡ before.files) × LineModes line before.files (Err fault)
+ReadsModes line (Err (status.ReadFault place)) before after =
+    (after.files ≡ before.files)
+    × FailsReading (most_clocks line) before.files (first_place line) 0 before.begun (files_of line) place after.begun
+ReadsModes line (Err _) before after = after.files ≡ before.files
 
 -- a fact about what an object tells before and after a call, where it tells it; whether it does never changes
 abbrev pub OnTold : {Told : Type 0} → (Told → Told → Type 0) → Option Told → Option Told → Type 0
@@ -98,11 +115,12 @@ OnTold Fact (Some before) None = ⊥
 OnTold Fact (Some before) (Some after) = Fact before after
 
 -- a read stops a run for a fault of a source, for a fault of the inputs, whose count rose, or for want of memory
-abbrev pub StopsReading : List (List ℕ) → ℕ → ℕ → Status → Type 0
-StopsReading names before after (status.Source fault) = Unit {0}
-StopsReading names before after (status.ReadFault place) = Rose before after × (1 ≤ place) × (place ≤ length names)
-StopsReading names before after status.NoMemory = Unit {0}
-StopsReading names before after _ = ⊥
+abbrev pub StopsReading : CommandLine → ℕ → ℕ → Status → Type 0
+StopsReading line before after (status.Source fault) = Unit {0}
+StopsReading line before after (status.ReadFault place) =
+    Rose before after × (first_place line ≤ place) × (place + 1 ≤ first_place line + length (files_of line))
+StopsReading line before after status.NoMemory = Unit {0}
+StopsReading line before after _ = ⊥
 
 -- the read of the file at a place of the words stops a run for one of these
 abbrev pub StopsAt : ℕ → ℕ → ℕ → Status → Type 0
@@ -111,23 +129,57 @@ StopsAt place before after (status.ReadFault failed) = Rose before after × (fai
 StopsAt place before after status.NoMemory = Unit {0}
 StopsAt place before after _ = ⊥
 
--- what computing the report of `edges` answers and leaves
-abbrev pub ComputesEdges : List (List ℕ) → Result (List ℕ) Status → Reading → Reading → Type 0
-ComputesEdges names (Ok text) before after = (after.files ≡ before.files) × IsEdgesText (Some before) (Some names) text
-ComputesEdges names (Err answer) before after = ReadsModes most_edges_clocks names (Err answer) before after
-
--- what a run of `edges` leaves in the inputs
-abbrev pub LeavesReading : Option (List (List ℕ)) → Status → Reading → Reading → Type 0
+-- what a run leaves in the inputs
+abbrev pub LeavesReading : Option CommandLine → Status → Reading → Reading → Type 0
 LeavesReading None answer before after = after ≡ before
-LeavesReading (Some names) (status.ReadFault place) before after =
+LeavesReading (Some line) (status.ReadFault place) before after =
     (after.files ≡ before.files)
-    × FailsReading most_edges_clocks before.files 1 0 before.begun names place after.begun
-LeavesReading (Some names) _ before after = after.files ≡ before.files
+    × FailsReading (most_clocks line) before.files (first_place line) 0 before.begun (files_of line) place after.begun
+LeavesReading (Some line) _ before after = after.files ≡ before.files
 
--- what a run of `edges` leaves in the outputs: nothing but the report, or a front of it, was appended to Report
-abbrev pub LeavesWritten : (List ℕ → Type 0) → Status → Written → Written → Type 0
-LeavesWritten IsText status.Done before after = (text : List ℕ) × IsText text × (after ≡ appended Report text before)
-LeavesWritten IsText status.WriteFault before after = (text : List ℕ) × IsText text × AppendsFront Report text before after
-LeavesWritten IsText status.NoMemory before after =
-    (after ≡ before) ⊎ ((text : List ℕ) × IsText text × AppendsFront Report text before after)
-LeavesWritten IsText _ before after = after ≡ before
+-- the whole output was written: to Merged, empty since its file was made, and behind what Report had
+abbrev pub WritesWhole : Option (List ℕ) → Output → Written → Written → Type 0
+WritesWhole None output before after = after ≡ appended Report output.report before
+WritesWhole (Some name) output before after =
+    after ≡ record before { merged = output.merged; name = name; report = before.report ++ output.report }
+
+-- a front of it was written, and no byte of the report before the merged file is whole
+abbrev pub WritesFront : Option (List ℕ) → Output → Written → Written → Type 0
+WritesFront None output before after = AppendsFront Report output.report before after
+WritesFront (Some name) output before after =
+    (merged : List ℕ) × (merged_rest : List ℕ) × (report : List ℕ) × (report_rest : List ℕ)
+    × (output.merged ≡ merged ++ merged_rest) × (output.report ≡ report ++ report_rest) × ((merged_rest ≡ []) ⊎ (report ≡ []))
+    × (after ≡ record before { merged = merged; name = name; report = before.report ++ report })
+
+-- what writing an output answers and leaves, by the file that is made
+abbrev pub Writes : Option (List ℕ) → Output → Status → Written → Written → Type 0
+Writes made output status.Done before after = WritesWhole made output before after
+Writes made output status.WriteFault before after = (after ≡ before) ⊎ WritesFront made output before after
+Writes made output status.NoMemory before after = (after ≡ before) ⊎ WritesFront made output before after
+Writes made output _ before after = ⊥
+
+-- what making the merged file and writing it and the report answers and leaves
+abbrev pub WritesBoth : List ℕ → Output → Result Unit Refusal → Written → Written → Type 0
+WritesBoth name output (Ok _) before after = WritesWhole (Some name) output before after
+WritesBoth name output (Err _) before after = (after ≡ before) ⊎ WritesFront (Some name) output before after
+
+-- writing ends with one of these
+abbrev pub EndsWriting : Status → Type 0
+EndsWriting status.Done = Unit {0}
+EndsWriting status.WriteFault = Unit {0}
+EndsWriting status.NoMemory = Unit {0}
+EndsWriting _ = ⊥
+
+-- what a run leaves in the outputs, by the file that it makes and its output
+abbrev pub LeavesWritten : Option (List ℕ) → (Output → Type 0) → Status → Written → Written → Type 0
+LeavesWritten made IsOutput status.Done before after = (output : Output) × IsOutput output × WritesWhole made output before after
+LeavesWritten made IsOutput status.WriteFault before after =
+    (output : Output) × IsOutput output × ((after ≡ before) ⊎ WritesFront made output before after)
+LeavesWritten made IsOutput status.NoMemory before after =
+    (after ≡ before) ⊎ ((output : Output) × IsOutput output × WritesFront made output before after)
+LeavesWritten made IsOutput _ before after = after ≡ before
+
+-- the file that a command line has made, where the words are one
+abbrev pub made_by : Option CommandLine → Option (List ℕ)
+made_by None = None
+made_by (Some line) = made_file line

@@ -9,6 +9,7 @@ use Rattle.sdc_base.specs.declared.memory.At.{At}
 use Rattle.sdc_base.specs.declared.memory.Stop.{Stop}
 use Rattle.sdc_base.specs.declared.memory.Stop.TheVariants as stop
 use Rattle.sdc_model.specs.declared.clocks.Clock.{Clock}
+use Rattle.sdc_model.specs.declared.clocks.Pair.{Pair}
 use Rattle.sdc_model.specs.declared.clocks.Wave.{Wave}
 use Rattle.sdc_model.specs.declared.clocks.Form.TheVariants.{Primary}
 use Rattle.sdc_model.specs.declared.clocks.Early.{Early}
@@ -118,10 +119,10 @@ do_all so_far [] = Some so_far
 do_all so_far (command ∷ commands) = option_and_then (λ next. do_all next commands) (does so_far command.line command.words)
 
 -- a mode of clocks and exclusive pairs alone
-abbrev pub clock_mode : SoFar → Mode
-clock_mode so_far = record {
-  clocks = so_far.clocks;
-  exclusive = exclusive_pairs so_far.groups (length so_far.clocks);
+abbrev pub mode_with : List Clock → List Pair → Mode
+mode_with clocks exclusive = record {
+  clocks = clocks;
+  exclusive = exclusive;
   cases = [];
   disabled = [];
   delays = [];
@@ -129,6 +130,10 @@ clock_mode so_far = record {
   kept = [];
   notes = [];
 }
+
+-- the mode of what was read
+abbrev pub clock_mode : SoFar → Mode
+clock_mode so_far = mode_with so_far.clocks (exclusive_pairs so_far.groups (length so_far.clocks))
 
 -- the mode, or the fault where there is none
 abbrev pub or_fault : Option SoFar → Result Mode Kind

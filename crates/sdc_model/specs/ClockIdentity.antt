@@ -11,7 +11,6 @@ use Rattle.sdc_model.specs.declared.clocks.Clock.{Clock}
 use Rattle.sdc_model.specs.declared.clocks.Wave.{Wave}
 use Rattle.sdc_model.specs.declared.clocks.Form.{Form}
 use Rattle.sdc_model.specs.declared.clocks.Form.TheVariants.{Primary, Generated}
-use Rattle.sdc_model.specs.declared.pins.Pin.{Pin}
 use Rattle.sdc_model.specs.declared.pins.ClockEdge.{ClockEdge}
 use Rattle.sdc_model.specs.declared.views.Arrivals.{Arrivals}
 use Rattle.sdc_model.specs.declared.views.View.{View}

@@ -1,7 +1,7 @@
 -- The file that a design and a mode are printed as (commands of SDC 2.1): its lines, each by its words, and its bytes.
 -- The choice of the commands, their options and their order is this project's own.
 -- It reads: the header, then a line for each clock, then one for each clock with later clocks that are exclusive to it.
-use Rattle.std.specs.Prelude.{◌≡◌, ◌<◌, ◌^◌, ◌==◌, ◌⊎◌, ℕ, suc, ℤ, pos, unsigned_abs, ◌+ℤ◌, ◌≤ℤ◌, ◌<ℤ◌, Bool, false, IsTrue, List, [], ◌∷◌, ◌++◌, length, map, codes, Option, Some, None, slice_get, if◌then◌else◌}
+use Rattle.std.specs.Prelude.{◌≡◌, ◌<◌, ◌^◌, ◌==◌, ◌⊎◌, ℕ, suc, ℤ, pos, unsigned_abs, ◌+ℤ◌, ◌≤ℤ◌, ◌<ℤ◌, false, IsTrue, List, [], ◌∷◌, ◌++◌, length, map, codes, Option, Some, None, slice_get, if◌then◌else◌}
 use Rattle.std.specs.List.{filter}
 use Rattle.sdc_base.specs.Time.{IsUnit, time_text_of}
 use Rattle.sdc_model.specs.declared.clocks.Clock.{Clock}
@@ -11,8 +11,8 @@ use Rattle.sdc_model.specs.declared.clocks.Pair.{Pair}
 use Rattle.sdc_model.specs.declared.clocks.Wave.{Wave}
 use Rattle.sdc_model.specs.declared.designs.Design.{Design}
 use Rattle.sdc_model.specs.declared.modes.Mode.{Mode}
-use Rattle.sdc_model.specs.ClockFile.{is_name, is_taken, virtual_clock, clock_mode}
-use Rattle.sdc_model.specs.PrintedLine.{PrintedWord, bare, spaced, lines_text, name_word, list_word, query_word}
+use Rattle.sdc_model.specs.ClockFile.{is_name, is_taken, virtual_clock, mode_with}
+use Rattle.sdc_model.specs.PrintedLine.{PrintedWord, bare, lines_text, name_word, list_word, query_word}
 
 -- the time unit of a library as Liberty and SDC name it
 abbrev pub unit_text : ℤ → List ℕ
@@ -128,4 +128,4 @@ pub record IsPrintable (design : Design) (mode : Mode) : Type 0 where
   pub unit : IsUnit design.unit
   pub clocks : ArePrintableClocks [] mode.clocks
   pub pairs : ArePairs (length mode.clocks) mode.exclusive
-  pub alone : mode ≡ record (clock_mode mode.clocks) { exclusive = mode.exclusive }
+  pub alone : mode ≡ mode_with mode.clocks mode.exclusive

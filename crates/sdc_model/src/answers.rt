@@ -21,6 +21,8 @@ pub enum Status {
     WriteFault,
     /// Memory ran out.
     NoMemory,
+    /// The merged text would have so many bytes, more than 268,435,456.
+    TooLarge(u64),
 }
 
 impl From<NoMemory> for Status {

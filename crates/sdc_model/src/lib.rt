@@ -6,6 +6,7 @@
 
 mod answers;
 mod clocks;
+mod command_lines;
 mod commands;
 mod constraints;
 mod designs;
@@ -21,6 +22,7 @@ mod views;
 
 pub use answers::Status;
 pub use clocks::{Clock, Early, Form, Latency, Pair, Shape, Wave};
+pub use command_lines::{CommandLine, Output};
 pub use commands::{Command, Next, Part, Word};
 pub use constraints::{CaseSet, Disable, ExCommand, Exception, IoDelay, Points, Through};
 pub use designs::{CellInfo, Design, NetInfo, PinInfo, Role, Source};
