@@ -21,7 +21,7 @@ pub struct Spelled {
 
 /// The word that stands at a place. Refused with the line that is given for it: as `Unclosed` where a brace or
 /// bracket has no end in the command, as `ExtraAfterBrace` where text stands right behind a closing brace, as
-/// `BadWord` where a byte stands in it that no word of its form has.
+/// `BadWord` where a byte stands in it that no word of its form has, or right behind a closing bracket.
 pub fn word_at(
     alloc: Global,
     text: &str,

@@ -13,11 +13,7 @@ fn show_word(shown: &mut String, word: &Word) -> Result<(), NoMemory> {
         match part {
             Part::Text(text) => shown.push_str(text.as_str())?,
             Part::Variable(_) => shown.push_str("(variable)")?,
-            Part::Script(script) => {
-                shown.push_str("[")?;
-                shown.push_str(script.as_str())?;
-                shown.push_str("]")?;
-            }
+            Part::Script(_) => shown.push_str("(script)")?,
         }
     }
     Ok(())
@@ -123,12 +119,7 @@ fn bytes_that_no_word_has(rt: HostRuntime) -> Result<(), Fail> {
 }
 
 /// Each word with its parts, texts in quotes and scripts in brackets, a bar behind each command.
-fn show_parts(alloc: Global, text: &str) -> Result<String, NoMemory> {
-    let commands = match split(alloc, text) {
-        Ok(commands) => commands,
-        Err(Stop::Refused(At { line, kind })) => return Ok(format!(in alloc; "{kind:?} {line}")?),
-        Err(Stop::NoMemory) => return Err(NoMemory),
-    };
+fn show_parts(alloc: Global, commands: &List<Command>) -> Result<String, NoMemory> {
     let mut shown = String::new(alloc);
     for command in commands.iter() {
         for word in command.words.iter() {
@@ -185,7 +176,8 @@ fn braced_words_and_bracketed_ones(rt: HostRuntime) -> Result<(), Fail> {
             "'set_clock_groups''-asynchronous''-group''A B''-group'[get_clocks {C D}]|",
         ),
     ] {
-        let shown = show_parts(rt.alloc(), text)?;
+        let commands = split(rt.alloc(), text)?;
+        let shown = show_parts(rt.alloc(), &commands)?;
         assert_eq!(rt; shown.as_str(), wanted, "the text {text:?}");
     }
     Ok(())
@@ -241,7 +233,7 @@ fn faults_of_braces_and_brackets(rt: HostRuntime) -> Result<(), Fail> {
         ("{a}b\n!", "ExtraAfterBrace 1"),
         ("{ !", "BadWord 1"),
     ] {
-        let shown = show_parts(rt.alloc(), text)?;
+        let shown = show_split(rt.alloc(), text)?;
         assert_eq!(rt; shown.as_str(), wanted, "the text {text:?}");
     }
     Ok(())
