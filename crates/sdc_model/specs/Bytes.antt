@@ -22,6 +22,32 @@ is_plain b = is_name_byte b || b == 46 || b == 43 || b == 45
 abbrev pub is_blank : ℕ → Bool
 is_blank b = b == 32 || b == 9
 
+-- what opens and closes a braced word: `{` and `}`
+abbrev pub open_brace : ℕ
+open_brace = 123
+
+abbrev pub close_brace : ℕ
+close_brace = 125
+
+-- what opens and closes a bracketed word: `[` and `]`
+abbrev pub open_bracket : ℕ
+open_bracket = 91
+
+abbrev pub close_bracket : ℕ
+close_bracket = 93
+
+-- a byte that opens a word of another form than the bare one
+abbrev pub is_opening : ℕ → Bool
+is_opening b = b == open_brace || b == open_bracket
+
+-- a byte that stands for itself in a braced word
+abbrev pub is_braced : ℕ → Bool
+is_braced b = is_plain b || is_blank b
+
+-- a byte that stands for itself in a bracketed word
+abbrev pub is_bracketed : ℕ → Bool
+is_bracketed b = is_braced b || b == open_brace || b == close_brace
+
 -- a newline or `;`
 abbrev pub is_end : ℕ → Bool
 is_end b = b == 10 || b == 59

@@ -1,7 +1,8 @@
 -- The grammar of commands (Tcl), as a relation between a text, its first command and the rest. The part of it that
--- is read here has bare words of plain bytes. Commands end at a newline or `;` or with the text, words are parted by
--- blanks, an empty command is passed over. Each further form of word is a further case of IsWord and BreaksWord.
-use Rattle.std.specs.Prelude.{◌≡◌, ◌<◌, ◌≤◌, ◌||◌, ℕ, Bool, true, false, List, [], ◌∷◌, ◌++◌, length, drop, Option, Some, None, Result, Ok, Err}
+-- is read here has bare words, braced ones and bracketed scripts, each on one line. Commands end at a newline or `;`
+-- or with the text, words are parted by blanks, an empty command is passed over. Each further form of word is a
+-- further case of IsWord and BreaksWord.
+use Rattle.std.specs.Prelude.{◌≡◌, ◌<◌, ◌≤◌, ◌||◌, ◌==◌, ◌⊎◌, ℕ, Bool, true, false, not, List, [], ◌∷◌, ◌++◌, length, drop, Option, Some, None, Result, Ok, Err}
 use Rattle.std.specs.List.{list_all}
 use Rattle.sdc_base.specs.declared.memory.At.{At}
 use Rattle.sdc_model.specs.declared.commands.Command.{Command}
@@ -9,8 +10,8 @@ use Rattle.sdc_model.specs.declared.commands.Word.{Word}
 use Rattle.sdc_model.specs.declared.commands.Part.TheVariants as part
 use Rattle.sdc_model.specs.declared.commands.Next.{Next}
 use Rattle.sdc_model.specs.declared.kinds.TclKind.{TclKind}
-use Rattle.sdc_model.specs.declared.kinds.TclKind.TheVariants.{BadWord}
-use Rattle.sdc_model.specs.Bytes.{is_plain, is_blank, is_end, is_separator, line_after}
+use Rattle.sdc_model.specs.declared.kinds.TclKind.TheVariants.{BadWord, ExtraAfterBrace, Unclosed}
+use Rattle.sdc_model.specs.Bytes.{close_brace, close_bracket, is_blank, is_braced, is_bracketed, is_end, is_opening, is_plain, is_separator, line_after, open_brace, open_bracket}
 
 -- all bytes of a run pass a test
 abbrev pub AllAre : (ℕ → Bool) → List ℕ → Type 0
@@ -21,19 +22,85 @@ abbrev pub Begins : (ℕ → Bool) → List ℕ → Type 0
 Begins test [] = Unit {0}
 Begins test (b ∷ bs) = test b ≡ true
 
--- a word and how it is spelled: a bare word of plain bytes
-abbrev pub IsWord : Word → List ℕ → Type 0
-IsWord word spelling = (0 < length spelling) × AllAre is_plain spelling × (word ≡ record { parts = part.Text spelling ∷ [] })
+-- a bare word: plain bytes, as its one text
+abbrev pub IsBare : Word → List ℕ → Type 0
+IsBare word spelling = (0 < length spelling) × AllAre is_plain spelling × (word ≡ record { parts = part.Text spelling ∷ [] })
 
--- no word stands at the front of a text, for a cause: behind plain bytes comes one that no word has
-pub record BreaksWord (kind : TclKind) (text : List ℕ) : Type 0 where
+-- bytes of a test, between a byte that opens and one that closes
+abbrev pub Encloses : ℕ → (ℕ → Bool) → ℕ → List ℕ → List ℕ → Type 0
+Encloses opener test closer inner spelling = AllAre test inner × (spelling ≡ opener ∷ (inner ++ closer ∷ []))
+
+-- a braced word: what its braces enclose, as its one text
+abbrev pub IsBraced : Word → List ℕ → Type 0
+IsBraced word spelling =
+    (inner : List ℕ) × Encloses open_brace is_braced close_brace inner spelling × (word ≡ record { parts = part.Text inner ∷ [] })
+
+-- a bracketed word: what its brackets enclose, as its one script
+abbrev pub IsBracketed : Word → List ℕ → Type 0
+IsBracketed word spelling =
+    (inner : List ℕ) × Encloses open_bracket is_bracketed close_bracket inner spelling × (word ≡ record { parts = part.Script inner ∷ [] })
+
+-- a word and how it is spelled, in one of its forms
+abbrev pub IsWord : Word → List ℕ → Type 0
+IsWord word spelling = IsBare word spelling ⊎ (IsBraced word spelling ⊎ IsBracketed word spelling)
+
+-- no bare word: behind plain bytes comes one that it has not
+pub record OddBare (text : List ℕ) : Type 0 where
   pub front : List ℕ
   pub bad : ℕ
   pub rest : List ℕ
-  pub all : text ≡ front ++ bad ∷ rest
+  pub bare : Begins (λ b. not (is_opening b)) text
   pub plain : AllAre is_plain front
+  pub all : text ≡ front ++ bad ∷ rest
   pub odd : (is_plain bad || is_separator bad) ≡ false
-  pub cause : kind ≡ BadWord
+
+-- opened, and the text or the command ends before the closing byte
+pub record NeverCloses (opener : ℕ) (test : ℕ → Bool) (text : List ℕ) : Type 0 where
+  pub inner : List ℕ
+  pub after : List ℕ
+  pub passes : AllAre test inner
+  pub all : text ≡ opener ∷ (inner ++ after)
+  pub ends : Begins is_end after
+
+-- opened, and another byte comes before the closing one
+pub record OddInside (opener : ℕ) (test : ℕ → Bool) (closer : ℕ) (text : List ℕ) : Type 0 where
+  pub inner : List ℕ
+  pub bad : ℕ
+  pub rest : List ℕ
+  pub passes : AllAre test inner
+  pub all : text ≡ opener ∷ (inner ++ bad ∷ rest)
+  pub odd : (test bad || bad == closer || is_end bad) ≡ false
+
+-- closed, and behind the closing byte comes one that parts no words
+pub record OddBehind (opener : ℕ) (test : ℕ → Bool) (closer : ℕ) (text : List ℕ) : Type 0 where
+  pub inner : List ℕ
+  pub bad : ℕ
+  pub rest : List ℕ
+  pub passes : AllAre test inner
+  pub all : text ≡ opener ∷ (inner ++ closer ∷ (bad ∷ rest))
+  pub odd : is_separator bad ≡ false
+
+-- no bare word, for a cause
+abbrev pub BreaksBare : TclKind → List ℕ → Type 0
+BreaksBare BadWord text = OddBare text
+BreaksBare _ text = ⊥
+
+-- no braced word, for a cause
+abbrev pub BreaksBraced : TclKind → List ℕ → Type 0
+BreaksBraced Unclosed text = NeverCloses open_brace is_braced text
+BreaksBraced BadWord text = OddInside open_brace is_braced close_brace text
+BreaksBraced ExtraAfterBrace text = OddBehind open_brace is_braced close_brace text
+
+-- no bracketed word, for a cause
+abbrev pub BreaksBracketed : TclKind → List ℕ → Type 0
+BreaksBracketed Unclosed text = NeverCloses open_bracket is_bracketed text
+BreaksBracketed BadWord text =
+    OddInside open_bracket is_bracketed close_bracket text ⊎ OddBehind open_bracket is_bracketed close_bracket text
+BreaksBracketed ExtraAfterBrace text = ⊥
+
+-- no word stands at the front of a text, for a cause: it begins as one of a form, and goes on as none
+abbrev pub BreaksWord : TclKind → List ℕ → Type 0
+BreaksWord kind text = BreaksBare kind text ⊎ (BreaksBraced kind text ⊎ BreaksBracketed kind text)
 
 -- a word stands at the front of a text, behind a gap of blanks, and ends before what comes after
 pub record StandsWord (word : Word) (text after : List ℕ) : Type 0 where

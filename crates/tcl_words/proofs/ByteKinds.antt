@@ -2,7 +2,7 @@
 use Rattle.std.proofs.Common.{◌≡◌, ◌<◌, ℕ, true, false, refl, arith}
 use Rattle.std.proofs.lemmas.Bool.{or_parts}
 use Rattle.std.proofs.lemmas.Bool.Decides.{nat_tests}
-use Rattle.sdc_model.specs.Bytes.{is_blank, is_end, is_plain, is_separator}
+use Rattle.sdc_model.specs.Bytes.{is_blank, is_end, is_opening, is_plain, is_separator}
 
 pub plain_ascii : (b : ℕ) → is_plain b ≡ true → b < 128
 plain_ascii b p = grind (arith, nat_tests)
@@ -32,3 +32,7 @@ end_not_blank b p = grind (arith, nat_tests)
 
 pub other_not_blank : (b : ℕ) → is_separator b ≡ false → is_blank b ≡ false
 other_not_blank b p = (or_parts (is_blank b) (is_end b) p).0
+
+-- a plain byte opens no other form of word
+pub plain_opens_not : (b : ℕ) → is_plain b ≡ true → is_opening b ≡ false
+plain_opens_not b p = grind (arith, nat_tests)

@@ -1,5 +1,5 @@
 -- How commands that are found one behind the other make up a whole text.
-use Rattle.std.proofs.Common.{◌≡◌, ◌<◌, ◌≤◌, ◌++◌, ℕ, List, [], ◌∷◌, Some, None, drop, length, Ok, Err, refl, sym, ap, subst, arith}
+use Rattle.std.proofs.Common.{◌≡◌, ◌<◌, ◌≤◌, ◌++◌, inl, inr, ℕ, List, [], ◌∷◌, Some, None, drop, length, Ok, Err, refl, sym, ap, subst, arith}
 use Rattle.std.proofs.lemmas.List.{length-append, length-drop}
 use Rattle.std.proofs.lemmas.Str.{IsCharBoundary-start}
 use Rattle.std.specs.Str.{IsCharBoundary, IsUtf8}
@@ -12,7 +12,7 @@ use Rattle.sdc_model.specs.declared.commands.Next.{Next}
 use Rattle.sdc_model.specs.declared.commands.Word.{Word}
 use Rattle.sdc_model.specs.declared.kinds.TclKind.{TclKind}
 use Rattle.sdc_model.specs.Bytes.{is_separator}
-use Rattle.sdc_model.specs.Commands.{AllAre, AreCommands, AreWords, BreaksBehind, FirstFrom, IsBroken, IsFirst, Splits, StandsWord}
+use Rattle.sdc_model.specs.Commands.{AllAre, AreCommands, AreWords, BreaksBehind, FirstFrom, IsBroken, IsFirst, IsWord, Splits, StandsWord}
 
 -- commands, one behind the other, with the text behind them and the line there
 abbrev pub Follow : List Command → List ℕ → ℕ → List ℕ → ℕ → Type 0
@@ -27,9 +27,14 @@ pub record CommandsTo (text : List ℕ) (to line : ℕ) (commands : List Command
   pub follow : Follow commands text 1 (drop to text) line
 
 -- a word takes some of the text
+word_long : (word : Word) (spelling : List ℕ) → IsWord word spelling → 0 < length spelling
+word_long word spelling (inl p) = p.0
+word_long word spelling (inr (inl p)) = omega (arith, ap length p.1.1)
+word_long word spelling (inr (inr p)) = omega (arith, ap length p.1.1)
+
 word_takes : (word : Word) (text after : List ℕ) → StandsWord word text after → length after < length text
 word_takes word text after stands =
-    omega (arith, ap length stands.all, length-append stands.gap (stands.spelling ++ after), length-append stands.spelling after, stands.spelled.0)
+    omega (arith, ap length stands.all, length-append stands.gap (stands.spelling ++ after), length-append stands.spelling after, word_long word stands.spelling stands.spelled)
 
 words_take : (words : List Word) (text rest : List ℕ) → AreWords words text rest → length rest ≤ length text
 words_take [] text rest p = omega (arith, ap length p.2, length-append p.0 rest)

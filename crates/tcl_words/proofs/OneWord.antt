@@ -1,14 +1,15 @@
 -- The grammar of words relates one outcome: one word and one rest, or one cause, and never both.
-use Rattle.std.proofs.Common.{◌≡◌, ◌<◌, ◌++◌, ◌||◌, ℕ, Bool, false, not, List, [], ◌∷◌, length, refl, sym, ap, subst, ◌∙◌, arith}
+use Rattle.std.proofs.Common.{◌≡◌, ◌<◌, ◌++◌, ◌||◌, inl, inr, ℕ, Bool, false, not, List, [], ◌∷◌, length, refl, sym, ap, subst, ◌∙◌, arith}
 use Rattle.std.specs.List.{list_all}
 use Rattle.std.proofs.lemmas.Bool.{and_parts, both_ways, not_from_false, not-true, or_parts}
 use Rattle.sdc_model.specs.declared.commands.Word.{Word}
-use Rattle.sdc_model.specs.declared.commands.Part.TheVariants as part
 use Rattle.sdc_model.specs.declared.kinds.TclKind.{TclKind}
-use Rattle.sdc_model.specs.Bytes.{is_blank, is_end, is_plain, is_separator}
+use Rattle.sdc_model.specs.declared.kinds.TclKind.TheVariants.{BadWord, ExtraAfterBrace, Unclosed}
+use Rattle.sdc_model.specs.Bytes.{close_brace, close_bracket, is_blank, is_end, is_plain, is_separator, open_brace, open_bracket}
 use Rattle.sdc_model.specs.Commands.{AllAre, Begins, BreaksWord, IsWord, StandsWord}
-use Rattle.tcl_words.proofs.ByteKinds.{end_not_blank, end_separates, other_not_blank, plain_parts_not, separator_not_plain}
+use Rattle.tcl_words.proofs.ByteKinds.{end_not_blank, end_separates, other_not_blank, plain_parts_not}
 use Rattle.tcl_words.proofs.Finding.{begins_both}
+use Rattle.tcl_words.proofs.Outcome.{breaks_outcome, cause_once, found_once, found_whole, outcome, word_outcome}
 
 -- a text begins with a byte that fails a test where it begins with one that fails a weaker test
 abbrev pub Other : (ℕ → Bool) → List ℕ → Type 0
@@ -30,7 +31,7 @@ same_runs test (x ∷ xs) (y ∷ ys) a b p q other_a other_b e =
     let same : xs ≡ ys = rest.0 in
     (cc, rest.1)
 
--- what is no separator is no blank, what ends a command is no blank, what parts words is not plain
+-- what is no separator is no blank, what ends a command is none and parts words
 pub other_blank : (text : List ℕ) → Other is_separator text → Other is_blank text
 other_blank [] p = tt
 other_blank (b ∷ bs) p = not_from_false (is_blank b) (other_not_blank b (not-true (is_separator b) p))
@@ -43,53 +44,58 @@ end_parts : (text : List ℕ) → Begins is_end text → Begins is_separator tex
 end_parts [] p = tt
 end_parts (b ∷ bs) p = end_separates b p
 
-parts_plain : (text : List ℕ) → Begins is_separator text → Other is_plain text
-parts_plain [] p = tt
-parts_plain (b ∷ bs) p = not_from_false (is_plain b) (separator_not_plain b p)
-
 -- how a word begins
 pub record Opens (text : List ℕ) : Type 0 where
   pub some : 0 < length text
   pub other : Other is_separator text
 
+-- as a byte that parts nothing
+opens_with : (b : ℕ) (bs : List ℕ) → is_separator b ≡ false → Opens (b ∷ bs)
+opens_with b bs p = record { some = omega arith; other = not_from_false (is_separator b) p }
+
+plain_opens : (spelling after : List ℕ) → 0 < length spelling → AllAre is_plain spelling → Opens (spelling ++ after)
+plain_opens [] after some p = absurd (omega arith)
+plain_opens (b ∷ bs) after some p = opens_with b (bs ++ after) (plain_parts_not b (and_parts (is_plain b) (list_all is_plain bs) p).0)
+
 word_opens : (word : Word) (spelling after : List ℕ) → IsWord word spelling → Opens (spelling ++ after)
-word_opens word [] after p = absurd (omega (arith, p.0))
-word_opens word (b ∷ bs) after p = record {
-  some = omega arith;
-  other = not_from_false (is_separator b) (plain_parts_not b (and_parts (is_plain b) (list_all is_plain bs) p.1).0);
-}
+word_opens word spelling after (inl p) = plain_opens spelling after p.0 p.1
+word_opens word spelling after (inr (inl p)) =
+    subst (λ (t : List ℕ). Opens (t ++ after)) (sym p.1.1) (opens_with open_brace ((p.0 ++ close_brace ∷ []) ++ after) refl)
+word_opens word spelling after (inr (inr p)) =
+    subst (λ (t : List ℕ). Opens (t ++ after)) (sym p.1.1) (opens_with open_bracket ((p.0 ++ close_bracket ∷ []) ++ after) refl)
 
 -- and how a fault of one does
-breaks_open_at : (front rest : List ℕ) (bad : ℕ) → AllAre is_plain front → (is_plain bad || is_separator bad) ≡ false → Opens (front ++ bad ∷ rest)
-breaks_open_at [] rest bad plain odd = record {
-  some = omega arith;
-  other = not_from_false (is_separator bad) (or_parts (is_plain bad) (is_separator bad) odd).1;
-}
-breaks_open_at (b ∷ bs) rest bad plain odd = record {
-  some = omega arith;
-  other = not_from_false (is_separator b) (plain_parts_not b (and_parts (is_plain b) (list_all is_plain bs) plain).0);
-}
+odd_opens : (front rest : List ℕ) (bad : ℕ) → AllAre is_plain front → (is_plain bad || is_separator bad) ≡ false → Opens (front ++ bad ∷ rest)
+odd_opens [] rest bad plain odd = opens_with bad rest (or_parts (is_plain bad) (is_separator bad) odd).1
+odd_opens (b ∷ bs) rest bad plain odd = plain_opens (b ∷ bs) (bad ∷ rest) (omega arith) plain
+
+opened_with : (opener : ℕ) (text rest : List ℕ) → is_separator opener ≡ false → text ≡ opener ∷ rest → Opens text
+opened_with opener text rest p all = subst (λ (t : List ℕ). Opens t) (sym all) (opens_with opener rest p)
 
 pub breaks_opens : (kind : TclKind) (text : List ℕ) → BreaksWord kind text → Opens text
-breaks_opens kind text p = subst (λ (t : List ℕ). Opens t) (sym p.all) (breaks_open_at p.front p.rest p.bad p.plain p.odd)
+breaks_opens BadWord text (inl p) = subst (λ (t : List ℕ). Opens t) (sym p.all) (odd_opens p.front p.rest p.bad p.plain p.odd)
+breaks_opens Unclosed text (inl p) = absurd p
+breaks_opens ExtraAfterBrace text (inl p) = absurd p
+breaks_opens Unclosed text (inr (inl p)) = opened_with open_brace text (p.inner ++ p.after) refl p.all
+breaks_opens BadWord text (inr (inl p)) = opened_with open_brace text (p.inner ++ p.bad ∷ p.rest) refl p.all
+breaks_opens ExtraAfterBrace text (inr (inl p)) = opened_with open_brace text (p.inner ++ close_brace ∷ (p.bad ∷ p.rest)) refl p.all
+breaks_opens Unclosed text (inr (inr p)) = opened_with open_bracket text (p.inner ++ p.after) refl p.all
+breaks_opens BadWord text (inr (inr (inl p))) = opened_with open_bracket text (p.inner ++ p.bad ∷ p.rest) refl p.all
+breaks_opens BadWord text (inr (inr (inr p))) = opened_with open_bracket text (p.inner ++ close_bracket ∷ (p.bad ∷ p.rest)) refl p.all
+breaks_opens ExtraAfterBrace text (inr (inr p)) = absurd p
 
 -- one word
 word_once : (w v : Word) (s t a b : List ℕ) → IsWord w s → IsWord v t → Begins is_separator a → Begins is_separator b → s ++ a ≡ t ++ b → (w ≡ v) × (a ≡ b)
 word_once w v s t a b p q ends_a ends_b e =
-    let same = same_runs is_plain s t a b p.1 q.1 (parts_plain a ends_a) (parts_plain b ends_b) e in
-    (p.2 ∙ (ap (λ (x : List ℕ). record { parts = part.Text x ∷ [] }) same.0 ∙ sym q.2), same.1)
+    found_once w v a b (outcome (s ++ a)) (word_outcome w s a p ends_a) (ap outcome e ∙ word_outcome v t b q ends_b)
 
 -- no word where one breaks
 word_breaks : (w : Word) (s a : List ℕ) (kind : TclKind) (text : List ℕ) → IsWord w s → Begins is_separator a → BreaksWord kind text → s ++ a ≡ text → ⊥
-word_breaks w s a kind text p ends breaks e =
-    let odd = or_parts (is_plain breaks.bad) (is_separator breaks.bad) breaks.odd in
-    let same = same_runs is_plain s breaks.front a (breaks.bad ∷ breaks.rest) p.1 breaks.plain (parts_plain a ends) (not_from_false (is_plain breaks.bad) odd.0) (e ∙ breaks.all) in
-    let parts : Begins is_separator (breaks.bad ∷ breaks.rest) = subst (λ (t : List ℕ). Begins is_separator t) same.1 ends in
-    both_ways (is_separator breaks.bad) odd.1 parts
+word_breaks w s a kind text p ends breaks e = found_whole w a kind (outcome (s ++ a)) (word_outcome w s a p ends) (ap outcome e ∙ breaks_outcome kind text breaks)
 
 -- one cause
 pub breaks_once : (k l : TclKind) (text : List ℕ) → BreaksWord k text → BreaksWord l text → k ≡ l
-breaks_once k l text p q = p.cause ∙ sym q.cause
+breaks_once k l text p q = cause_once k l (outcome text) (breaks_outcome k text p) (breaks_outcome l text q)
 
 -- behind a gap: one rest
 pub same_gaps : (g h a b text : List ℕ) → AllAre is_blank g → AllAre is_blank h → Other is_blank a → Other is_blank b → text ≡ g ++ a → text ≡ h ++ b → a ≡ b

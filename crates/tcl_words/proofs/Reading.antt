@@ -6,10 +6,11 @@ use Rattle.std.proofs.lemmas.List.{drop_more, length-append, length-drop, take_a
 use Rattle.sdc_model.specs.declared.commands.Word.{Word}
 use Rattle.sdc_model.specs.declared.commands.Part.TheVariants as part
 use Rattle.sdc_model.specs.declared.kinds.TclKind.TheVariants.{BadWord}
-use Rattle.sdc_model.specs.Bytes.{is_plain, is_separator, last_line, line_after}
+use Rattle.sdc_model.specs.Bytes.{is_opening, is_plain, is_separator, last_line, line_after}
 use Rattle.sdc_model.specs.Commands.{AllAre, Begins, BreaksWord}
 use Rattle.tcl_words.specs.Reads.{IsLine, WordAt}
 use Rattle.tcl_words.specs.Spans.{IsSpan, Passes, Stands}
+use Rattle.tcl_words.proofs.Runs.{begins_not}
 
 -- a byte at which a text goes on passes the test that the text begins with
 pub begins_test : (test : ℕ → Bool) (bytes : List ℕ) (at : ℕ) → at < length bytes → Begins test (drop at bytes) → test (get_or bytes at 0) ≡ true
@@ -79,19 +80,21 @@ stands_bare text from to word lt begins span ends is =
     record {
       spelling = span.between.run;
       between = passes_line is_plain refl text from to span.between;
-      word = (some, span.between.passes, is ∙ ap (λ t. record { parts = part.Text t ∷ [] }) (run_is is_plain text from to span.between));
+      word = inl (some, span.between.passes, is ∙ ap (λ t. record { parts = part.Text t ∷ [] }) (run_is is_plain text from to span.between));
       some = behind;
       ends = ends;
     }
 
 -- plain bytes before a byte that neither is plain nor ends a word are none
-pub breaks_bare : (text : List ℕ) (from to : ℕ) → IsSpan is_plain text from to → Stands is_separator text to false → BreaksWord BadWord (drop from text)
-breaks_bare text from to span stands = record {
-  front = span.between.run;
-  bad = get_or text to 0;
-  rest = drop (to + 1) text;
-  all = span.between.all ∙ ap (λ t. span.between.run ++ t) (drop_more text to 0 stands.0);
-  plain = span.between.passes;
-  odd = or_from (is_plain (get_or text to 0)) (is_separator (get_or text to 0)) (begins_not_test is_plain text to stands.0 span.stops) stands.1;
-  cause = refl;
-}
+pub breaks_bare : (text : List ℕ) (from to : ℕ) → from < length text → is_opening (get_or text from 0) ≡ false → IsSpan is_plain text from to → Stands is_separator text to false → BreaksWord BadWord (drop from text)
+breaks_bare text from to lt bare span stands =
+    inl
+    (record {
+      front = span.between.run;
+      bad = get_or text to 0;
+      rest = drop (to + 1) text;
+      bare = begins_not is_opening text from lt bare;
+      plain = span.between.passes;
+      all = span.between.all ∙ ap (λ t. span.between.run ++ t) (drop_more text to 0 stands.0);
+      odd = or_from (is_plain (get_or text to 0)) (is_separator (get_or text to 0)) (begins_not_test is_plain text to stands.0 span.stops) stands.1;
+    })

@@ -1,3 +1,4 @@
+pub mod Enclosures
 pub mod Laws
 pub mod Reads
 pub mod Spans

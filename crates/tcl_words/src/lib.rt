@@ -4,6 +4,7 @@
 //! grammar has one outcome. It leaves to others what a word's variables and scripts stand for.
 #![tactic(auto)]
 
+mod enclosed;
 mod laws;
 mod reader;
 mod scan;

@@ -46,7 +46,8 @@ pub fn command_words(
 
 /// The first command at or behind a place of a text (Tcl, in the part that is read here), with the place and
 /// the line where it ends; `None` where only blanks, newlines and `;` are left. `line` is that of the place.
-/// Refused with the line where the command begins, as `BadWord`, where a byte stands in it that no word has.
+/// Refused with the line where the command begins, by the first word that cannot be read: `Unclosed`,
+/// `ExtraAfterBrace` or `BadWord`, as `word_at` says.
 /// The end of a command is behind `from` and cuts no character, so that this can be called again there.
 pub fn next_command(
     alloc: Global,
@@ -70,8 +71,8 @@ pub fn next_command(
     Ok(Some(Next { command, end, line }))
 }
 
-/// The commands of a text, in order (Tcl, in the part that is read here). Refused with the line where its
-/// command begins, as `BadWord`, at the first byte that no word has.
+/// The commands of a text, in order (Tcl, in the part that is read here). Refused as `next_command` refuses, at
+/// the first command that cannot be read.
 pub fn split(alloc: Global, text: &str) -> Result<List<Command>, Stop<At<TclKind>>>
     ensures { Meets result (Splits text.now) }
 {

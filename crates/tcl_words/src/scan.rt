@@ -5,14 +5,14 @@ ghost use Rattle.sdc_model.specs.Bytes.{is_plain as plain, is_blank as blank, is
 ghost use Rattle.tcl_words.specs.Spans.{IsSpan, Stands, SkipsTo};
 
 /// Whether a byte stands for itself in a bare word (Tcl, in the part that is read here).
-fn is_plain(byte: u8) -> bool
+pub fn is_plain(byte: u8) -> bool
     ensures { result ≡ plain byte }
 {
     byte.is_ascii_alphanumeric() || matches!(byte, b'_' | b'.' | b'+' | b'-')
 }
 
 /// Whether a byte is a space or a tab.
-fn is_blank(byte: u8) -> bool
+pub fn is_blank(byte: u8) -> bool
     ensures { result ≡ blank byte }
 {
     byte == b' ' || byte == b'\t'

@@ -98,9 +98,7 @@ fn bytes_that_no_word_has(rt: HostRuntime) -> Result<(), Fail> {
         ("a\r\n", "BadWord 1"),
         ("# a", "BadWord 1"),
         ("a \\\nb", "BadWord 1"),
-        ("a {b}", "BadWord 1"),
         ("a }", "BadWord 1"),
-        ("a [b]", "BadWord 1"),
         ("a ]", "BadWord 1"),
         ("a \"b\"", "BadWord 1"),
         ("a $b", "BadWord 1"),
@@ -113,6 +111,127 @@ fn bytes_that_no_word_has(rt: HostRuntime) -> Result<(), Fail> {
         ("a \x7f", "BadWord 1"),
         ("a\né", "BadWord 2"),
         ("a 中b", "BadWord 1"),
+    ] {
+        let shown = show_split(rt.alloc(), text)?;
+        assert_eq!(rt; shown.as_str(), wanted, "the text {text:?}");
+    }
+    Ok(())
+}
+
+/// Each word with its parts, texts in quotes and scripts in brackets, a bar behind each command.
+fn show_parts(alloc: Global, commands: &List<Command>) -> Result<String, NoMemory> {
+    let mut shown = String::new(alloc);
+    for command in commands.iter() {
+        for word in command.words.iter() {
+            show_parts_of(&mut shown, word)?;
+        }
+        shown.push_str("|")?;
+    }
+    Ok(shown)
+}
+
+fn show_parts_of(shown: &mut String, word: &Word) -> Result<(), NoMemory> {
+    for part in word.parts.iter() {
+        let (before, text, behind) = match part {
+            Part::Text(text) => ("'", text, "'"),
+            Part::Variable(name) => ("$", name, ""),
+            Part::Script(script) => ("[", script, "]"),
+        };
+        shown.push_str(before)?;
+        shown.push_str(text.as_str())?;
+        shown.push_str(behind)?;
+    }
+    Ok(())
+}
+
+#[test]
+fn braced_words_and_bracketed_ones(rt: HostRuntime) -> Result<(), Fail> {
+    for (text, wanted) in [
+        // braces around nothing, one word, several, blanks
+        ("{}", "''|"),
+        ("{ }", "' '|"),
+        ("{a}", "'a'|"),
+        ("{A B}", "'A B'|"),
+        ("{ A\tB }", "' A\tB '|"),
+        ("{0 +5.0 -1e-3}", "'0 +5.0 -1e-3'|"),
+        // brackets
+        ("[]", "[]|"),
+        ("[a]", "[a]|"),
+        ("[get_clocks A]", "[get_clocks A]|"),
+        ("[get_clocks {A B}]", "[get_clocks {A B}]|"),
+        ("[\t{ } ]", "[\t{ } ]|"),
+        // what ends them
+        ("a {b} c", "'a''b''c'|"),
+        ("a {b}\tc", "'a''b''c'|"),
+        ("a {b};c", "'a''b'|'c'|"),
+        ("a {b}\nc", "'a''b'|'c'|"),
+        ("a [b] c", "'a'[b]'c'|"),
+        ("a [b];c", "'a'[b]|'c'|"),
+        ("a [b]\nc", "'a'[b]|'c'|"),
+        ("{a} {b} [c] [d]", "'a''b'[c][d]|"),
+        ("{}\n[]", "''|[]|"),
+        // groups of clocks
+        (
+            "set_clock_groups -asynchronous -group {A B} -group [get_clocks {C D}]",
+            "'set_clock_groups''-asynchronous''-group''A B''-group'[get_clocks {C D}]|",
+        ),
+    ] {
+        let commands = split(rt.alloc(), text)?;
+        let shown = show_parts(rt.alloc(), &commands)?;
+        assert_eq!(rt; shown.as_str(), wanted, "the text {text:?}");
+    }
+    Ok(())
+}
+
+#[test]
+fn faults_of_braces_and_brackets(rt: HostRuntime) -> Result<(), Fail> {
+    for (text, wanted) in [
+        // the text or the command ends first
+        ("{", "Unclosed 1"),
+        ("{a", "Unclosed 1"),
+        ("a\nb {c d", "Unclosed 2"),
+        ("{a;b}", "Unclosed 1"),
+        ("{a\nb}", "Unclosed 1"),
+        ("\n\na {b\n}", "Unclosed 3"),
+        ("[", "Unclosed 1"),
+        ("[a {b}", "Unclosed 1"),
+        ("[a;b]", "Unclosed 1"),
+        ("a\n[b\n]", "Unclosed 2"),
+        // a byte inside that is not read there
+        ("{a{b}}", "BadWord 1"),
+        ("{a[b]}", "BadWord 1"),
+        ("{a]", "BadWord 1"),
+        ("{a\\b}", "BadWord 1"),
+        ("{$a}", "BadWord 1"),
+        ("{a\r}", "BadWord 1"),
+        ("{é}", "BadWord 1"),
+        ("[a [b]]", "BadWord 1"),
+        ("a\n[b \"c\"]", "BadWord 2"),
+        ("[中]", "BadWord 1"),
+        // it comes first, or the end does
+        ("{a!;", "BadWord 1"),
+        ("{a;!}", "Unclosed 1"),
+        // text behind
+        ("{a}b", "ExtraAfterBrace 1"),
+        ("{}}", "ExtraAfterBrace 1"),
+        ("a\nb {c}{d}", "ExtraAfterBrace 2"),
+        ("{a}[b]", "ExtraAfterBrace 1"),
+        ("{a}é", "ExtraAfterBrace 1"),
+        ("[a]b", "BadWord 1"),
+        ("[a]]", "BadWord 1"),
+        ("a;b\n\n[a]{b}", "BadWord 3"),
+        // a closing one alone, and one in a bare word
+        ("}", "BadWord 1"),
+        ("]", "BadWord 1"),
+        ("a{b}", "BadWord 1"),
+        ("a{", "BadWord 1"),
+        ("a[b]", "BadWord 1"),
+        ("a}", "BadWord 1"),
+        ("-{a}", "BadWord 1"),
+        // the first fault of the text
+        ("a!\n{", "BadWord 1"),
+        ("{a}b\n!", "ExtraAfterBrace 1"),
+        ("{ !", "BadWord 1"),
     ] {
         let shown = show_split(rt.alloc(), text)?;
         assert_eq!(rt; shown.as_str(), wanted, "the text {text:?}");

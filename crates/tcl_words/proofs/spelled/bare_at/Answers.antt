@@ -6,7 +6,7 @@ use Rattle.sdc_model.specs.Commands.{Begins}
 use Rattle.tcl_words.specs.Spans.{IsSpan}
 use Rattle.tcl_words.proofs.ByteKinds.{plain_ascii}
 use Rattle.tcl_words.proofs.Reading.{first_plain, stands_bare}
-use Rattle.tcl_words.proofs.spelled.word_at.Goals as goal
+use Rattle.tcl_words.proofs.spelled.bare_at.Goals as goal
 
 pub range-requires-clause-start_boundary : goal.range-requires-clause-start_boundary
 range-requires-clause-start_boundary c =
