@@ -1,3 +1,4 @@
+pub mod Arguments
 pub mod Budgets
 pub mod EdgeLines
 pub mod ModeSteps
