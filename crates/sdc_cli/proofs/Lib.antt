@@ -1,4 +1,5 @@
 pub mod Arguments
+pub mod BothWritten
 pub mod Budgets
 pub mod EdgeLines
 pub mod ModeSteps

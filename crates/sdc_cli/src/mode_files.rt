@@ -27,7 +27,8 @@ pub fn read_modes<I: Inputs>(
     let first = first_place(line);
     let mut modes = List::new(alloc);
     let mut count = 0;
-    for (at, name) in files_of(line).iter().enumerate() {
+    let names = files_of(line);
+    for (at, name) in names.iter().enumerate() {
         let mode = read_file(alloc, most, count, first + at as u32, name.as_str(), inputs)?;
         count += mode.clocks.len();
         modes.push(mode)?;
