@@ -1,0 +1,4 @@
+pub mod AddedFacts
+pub mod GroupFacts
+pub mod LineFacts
+pub mod RunFacts
