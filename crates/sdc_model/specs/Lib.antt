@@ -11,6 +11,7 @@ pub mod CommandLine
 pub mod Commands
 pub mod EdgesText
 pub mod ModeFiles
+pub mod PrintedCommands
 pub mod PrintedFile
 pub mod PrintedLine
 pub mod Relation

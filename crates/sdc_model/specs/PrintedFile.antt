@@ -11,7 +11,7 @@ use Rattle.sdc_model.specs.declared.clocks.Pair.{Pair}
 use Rattle.sdc_model.specs.declared.clocks.Wave.{Wave}
 use Rattle.sdc_model.specs.declared.designs.Design.{Design}
 use Rattle.sdc_model.specs.declared.modes.Mode.{Mode}
-use Rattle.sdc_model.specs.ClockFile.{is_name, is_taken, virtual_clock, clock_mode}
+use Rattle.sdc_model.specs.ClockFile.{is_name, is_taken, virtual_clock}
 use Rattle.sdc_model.specs.PrintedLine.{PrintedWord, bare, spaced, lines_text, name_word, list_word, query_word}
 
 -- the time unit of a library as Liberty and SDC name it
@@ -123,9 +123,23 @@ ArePairs count [] = Unit {0}
 ArePairs count (pair ∷ pairs) =
     (pair.first < pair.second) × (pair.second < count) × IsBehind pair pairs × ArePairs count pairs
 
+-- a mode of clocks and exclusive pairs alone
+abbrev pub IsOfClocks : Mode → Type 0
+IsOfClocks mode =
+    mode ≡ record {
+      clocks = mode.clocks;
+      exclusive = mode.exclusive;
+      cases = [];
+      disabled = [];
+      delays = [];
+      exceptions = [];
+      kept = [];
+      notes = [];
+    }
+
 -- a mode that can be printed over a design: printable clocks, and exclusive pairs of them, and no other part
 pub record IsPrintable (design : Design) (mode : Mode) : Type 0 where
   pub unit : IsUnit design.unit
   pub clocks : ArePrintableClocks [] mode.clocks
   pub pairs : ArePairs (length mode.clocks) mode.exclusive
-  pub alone : mode ≡ record (clock_mode mode.clocks) { exclusive = mode.exclusive }
+  pub alone : IsOfClocks mode

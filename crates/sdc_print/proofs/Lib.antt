@@ -1,4 +1,5 @@
 pub mod AddedFacts
+pub mod CommandFacts
 pub mod GroupFacts
 pub mod LineFacts
 pub mod RunFacts

@@ -7,8 +7,10 @@
 
 mod clock_printing;
 mod group_printing;
+mod line_laws;
 mod printing;
 mod sinks;
 mod word_printing;
 
+pub use line_laws::lines_are_commands;
 pub use printing::{print, printed_length};
