@@ -8,8 +8,12 @@
 mod clock_printing;
 mod group_printing;
 mod line_laws;
+#[cfg(test)]
+mod printable_modes;
 mod printing;
 mod sinks;
+#[cfg(test)]
+mod tests;
 mod word_printing;
 
 pub use line_laws::lines_are_commands;
