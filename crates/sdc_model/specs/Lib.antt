@@ -16,6 +16,7 @@ pub mod Exclusive
 pub mod Items
 pub mod ModeFiles
 pub mod PlainViews
+pub mod PrintedCommands
 pub mod PrintedFile
 pub mod PrintedLine
 pub mod Relation

@@ -1,7 +1,7 @@
 -- The file that a design and a mode are printed as (commands of SDC 2.1): its lines, each by its words, and its bytes.
 -- The choice of the commands, their options and their order is this project's own.
 -- It reads: the header, then a line for each clock, then one for each clock with later clocks that are exclusive to it.
-use Rattle.std.specs.Prelude.{◌≡◌, ◌<◌, ◌^◌, ◌==◌, ◌⊎◌, ℕ, suc, ℤ, pos, unsigned_abs, ◌+ℤ◌, ◌≤ℤ◌, ◌<ℤ◌, false, IsTrue, List, [], ◌∷◌, ◌++◌, length, map, codes, Option, Some, None, slice_get, if◌then◌else◌}
+use Rattle.std.specs.Prelude.{◌≡◌, ◌<◌, ◌^◌, ◌==◌, ◌⊎◌, ℕ, suc, ℤ, pos, unsigned_abs, ◌+ℤ◌, ◌≤ℤ◌, ◌<ℤ◌, Bool, false, IsTrue, List, [], ◌∷◌, ◌++◌, length, map, codes, Option, Some, None, slice_get, if◌then◌else◌}
 use Rattle.std.specs.List.{filter}
 use Rattle.sdc_base.specs.Time.{IsUnit, time_text_of}
 use Rattle.sdc_model.specs.declared.clocks.Clock.{Clock}
@@ -11,11 +11,11 @@ use Rattle.sdc_model.specs.declared.clocks.Pair.{Pair}
 use Rattle.sdc_model.specs.declared.clocks.Wave.{Wave}
 use Rattle.sdc_model.specs.declared.designs.Design.{Design}
 use Rattle.sdc_model.specs.declared.modes.Mode.{Mode}
-use Rattle.sdc_model.specs.ClockFile.{is_name, is_taken, virtual_clock, mode_with}
-use Rattle.sdc_model.specs.PrintedLine.{PrintedWord, bare, lines_text, name_word, list_word, query_word}
+use Rattle.sdc_model.specs.ClockFile.{is_name, is_taken, virtual_clock}
+use Rattle.sdc_model.specs.PrintedLine.{PrintedWord, bare, spaced, lines_text, name_word, list_word, query_word}
 
 -- the time unit of a library as Liberty and SDC name it
-abbrev pub unit_text : ℤ → List ℕ
+unfoldable pub unit_text : ℤ → List ℕ
 unit_text unit =
     let u = unsigned_abs unit in
     if u == 1000 then codes "1ps"
@@ -24,7 +24,7 @@ unit_text unit =
     else codes "1ns"
 
 -- the version of SDC and the time unit
-abbrev pub header_lines : ℤ → List (List PrintedWord)
+unfoldable pub header_lines : ℤ → List (List PrintedWord)
 header_lines unit =
     (bare (codes "set") ∷ bare (codes "sdc_version") ∷ bare (codes "2.1") ∷ [])
     ∷ (bare (codes "set_units") ∷ bare (codes "-time") ∷ bare (unit_text unit) ∷ []) ∷ []
@@ -38,7 +38,7 @@ abbrev pub wave_word : ℤ → Wave → PrintedWord
 wave_word unit wave = list_word (time_text_of wave.rise unit ∷ time_text_of wave.fall unit ∷ [])
 
 -- the line of a clock with a waveform of its own
-abbrev pub clock_line : ℤ → List ℕ → Wave → List PrintedWord
+unfoldable pub clock_line : ℤ → List ℕ → Wave → List PrintedWord
 clock_line unit name wave =
     bare (codes "create_clock") ∷ bare (codes "-name") ∷ name_word name ∷ bare (codes "-period") ∷ time_word unit wave.period
     ∷ bare (codes "-waveform") ∷ wave_word unit wave ∷ []
@@ -70,7 +70,7 @@ abbrev pub clocks_word : List (List ℕ) → PrintedWord
 clocks_word names = query_word (codes "get_clocks") names
 
 -- the line that makes a clock and others exclusive
-abbrev pub group_line : List ℕ → List (List ℕ) → List PrintedWord
+unfoldable pub group_line : List ℕ → List (List ℕ) → List PrintedWord
 group_line name others =
     bare (codes "set_clock_groups") ∷ bare (codes "-asynchronous") ∷ bare (codes "-group") ∷ clocks_word (name ∷ [])
     ∷ bare (codes "-group") ∷ clocks_word others ∷ []
@@ -92,7 +92,7 @@ printed_lines design mode =
     header_lines design.unit
     ++ (clock_lines design.unit mode.clocks ++ group_lines mode.clocks mode.exclusive 0 mode.clocks)
 
-abbrev pub printed_file : Design → Mode → List ℕ
+unfoldable pub printed_file : Design → Mode → List ℕ
 printed_file design mode = lines_text (printed_lines design mode)
 
 -- a waveform that a line can give: a period of 2 to 10^12 fs, in which it rises, and one fall before the next rise
@@ -123,9 +123,23 @@ ArePairs count [] = Unit {0}
 ArePairs count (pair ∷ pairs) =
     (pair.first < pair.second) × (pair.second < count) × IsBehind pair pairs × ArePairs count pairs
 
+-- a mode of clocks and exclusive pairs alone
+abbrev pub IsOfClocks : Mode → Type 0
+IsOfClocks mode =
+    mode ≡ record {
+      clocks = mode.clocks;
+      exclusive = mode.exclusive;
+      cases = [];
+      disabled = [];
+      delays = [];
+      exceptions = [];
+      kept = [];
+      notes = [];
+    }
+
 -- a mode that can be printed over a design: printable clocks, and exclusive pairs of them, and no other part
 pub record IsPrintable (design : Design) (mode : Mode) : Type 0 where
   pub unit : IsUnit design.unit
   pub clocks : ArePrintableClocks [] mode.clocks
   pub pairs : ArePairs (length mode.clocks) mode.exclusive
-  pub alone : mode ≡ mode_with mode.clocks mode.exclusive
+  pub alone : IsOfClocks mode

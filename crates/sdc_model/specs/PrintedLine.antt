@@ -41,7 +41,7 @@ abbrev pub is_bare_text : List ℕ → Bool
 is_bare_text text = nat_lt 0 (length text) && list_all is_bare_byte text
 
 -- a name outside a list: bare where it may be, else in braces
-abbrev pub name_word : List ℕ → PrintedWord
+unfoldable pub name_word : List ℕ → PrintedWord
 name_word name = if is_bare_text name then bare name else braced name
 
 -- names in a list

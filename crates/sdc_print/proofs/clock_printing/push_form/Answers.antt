@@ -1,0 +1,20 @@
+use Rattle.std.proofs.Common.{sym, ap, ◌∙◌, rules}
+use Rattle.std.proofs.lemmas.Int.{to_z-of_z}
+use Rattle.std.proofs.lemmas.List.{append-nil}
+use Rattle.std.specs.Int.{w64}
+use mir.Val.{SFits}
+use Rattle.sdc_model.specs.PrintedLine.{line_text}
+use Rattle.sdc_model.specs.PrintedFile.{clock_line}
+use Rattle.sdc_print.specs.Added.{added}
+use Rattle.sdc_print.proofs.AddedFacts.{added_none}
+use Rattle.sdc_print.proofs.clock_printing.push_form.Goals as goal
+
+pub returns-in_ok-push_clock-in-Primary : goal.returns-in_ok-push_clock-in-Primary
+returns-in_ok-push_clock-in-Primary c =
+    let unit : SFits w64 c.args.unit = search rules in
+    rw c.in-Primary.is
+    ((simp to_z-of_z at c.in_ok-push_clock-in-Primary.ensures)
+    ∙ ap (added c.args.out.now) (sym (append-nil (line_text (clock_line c.args.unit c.args.name.now c.in-Primary.wave)))))
+
+pub returns-in-Generated : goal.returns-in-Generated
+returns-in-Generated c = rw c.in-Generated.is (sym (added_none c.args.out.now))

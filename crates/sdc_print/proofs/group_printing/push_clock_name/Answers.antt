@@ -1,0 +1,9 @@
+use Rattle.std.proofs.Common.{sym, ap, ◌∙◌}
+use Rattle.sdc_model.specs.PrintedFile.{name_of}
+use Rattle.sdc_print.specs.Added.{added}
+use Rattle.sdc_print.proofs.AddedFacts.{added_none}
+use Rattle.sdc_print.proofs.group_printing.push_clock_name.Goals as goal
+
+pub returns-in-None : goal.returns-in-None
+returns-in-None c =
+    sym (added_none c.args.out.now) ∙ ap (λ o. added c.args.out.now (name_of o)) c.in-None.ensures.value

@@ -1,0 +1,19 @@
+-- Pairs with one first place that stand one behind the other. Small words for this crate's private functions.
+use Rattle.std.specs.Prelude.{ℕ, suc, ◌==◌, List, [], ◌∷◌, map, if◌then◌else◌}
+use Rattle.sdc_model.specs.declared.clocks.Clock.{Clock}
+use Rattle.sdc_model.specs.declared.clocks.Pair.{Pair}
+use Rattle.sdc_model.specs.PrintedLine.{lines_text}
+use Rattle.sdc_model.specs.PrintedFile.{lines_of_group, names_at}
+
+-- how many pairs from the front on have this first place
+unfoldable pub run_length : ℕ → List Pair → ℕ
+run_length place [] = 0
+run_length place (pair ∷ pairs) = if pair.first == place then suc (run_length place pairs) else 0
+
+-- their second places
+abbrev pub seconds : List Pair → List ℕ
+seconds pairs = map (λ pair. pair.second) pairs
+
+-- the bytes of the line of a clock and the second ones of such pairs
+abbrev pub group_text : List ℕ → List Clock → List Pair → List ℕ
+group_text name clocks pairs = lines_text (lines_of_group name (names_at clocks (seconds pairs)))

@@ -1,0 +1,70 @@
+//! The lines of clocks.
+
+ghost use Rattle.std.specs.Prelude.{◌≡◌, OnOk};
+ghost use Rattle.sdc_base.specs.Time.{IsUnit};
+ghost use Rattle.sdc_model.specs.PrintedLine.{line_text, lines_text};
+ghost use Rattle.sdc_model.specs.PrintedFile.{clock_line, lines_of_form, clock_lines};
+ghost use Rattle.sdc_print.specs.Added.{added};
+
+use crate::sinks::Sink;
+use crate::word_printing::{push_name, push_time};
+use sdc_base::{List, NoMemory};
+use sdc_model::{Clock, Form, Wave};
+use std::alloc::Global;
+
+/// Adds the lines of clocks in order.
+pub fn push_clocks(
+    out: &mut Sink,
+    alloc: Global,
+    unit: i64,
+    clocks: &List<Clock>,
+) -> Result<(), NoMemory>
+    requires { IsUnit unit }
+    ensures { OnOk result (out.new ≡ added out.old (lines_text (clock_lines unit clocks.now))) }
+{
+    for clock in clocks.as_slice() {
+        push_form(out, alloc, unit, clock.name.as_bytes(), &clock.form)?;
+    }
+    Ok(())
+}
+
+/// Adds the line of a clock by its form.
+fn push_form(
+    out: &mut Sink,
+    alloc: Global,
+    unit: i64,
+    name: &[u8],
+    form: &Form,
+) -> Result<(), NoMemory>
+    requires { IsUnit unit }
+    ensures { OnOk result (out.new ≡ added out.old (lines_text (lines_of_form unit name.now form.now))) }
+{
+    match form {
+        Form::Primary { wave } => push_clock(out, alloc, unit, name, wave)?,
+        Form::Generated { .. } => {}
+    }
+    Ok(())
+}
+
+/// Adds the line of a clock with a waveform of its own.
+fn push_clock(
+    out: &mut Sink,
+    alloc: Global,
+    unit: i64,
+    name: &[u8],
+    wave: &Wave,
+) -> Result<(), NoMemory>
+    requires { IsUnit unit }
+    ensures { OnOk result (out.new ≡ added out.old (line_text (clock_line unit name.now wave.now))) }
+{
+    out.push(b"create_clock -name ")?;
+    push_name(out, name)?;
+    out.push(b" -period ")?;
+    push_time(out, alloc, unit, wave.period)?;
+    out.push(b" -waveform {")?;
+    push_time(out, alloc, unit, wave.rise)?;
+    out.push(b" ")?;
+    push_time(out, alloc, unit, wave.fall)?;
+    out.push(b"}\n")?;
+    Ok(())
+}

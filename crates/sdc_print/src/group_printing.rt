@@ -1,0 +1,81 @@
+//! The lines of exclusive clocks.
+
+ghost use Rattle.std.specs.Prelude.{◌≡◌, ◌≤◌, OnOk, length, slice_get};
+ghost use Rattle.sdc_model.specs.PrintedLine.{lines_text, spaced};
+ghost use Rattle.sdc_model.specs.PrintedFile.{group_lines, name_of, names_at, ArePairs};
+ghost use Rattle.sdc_print.specs.Added.{added};
+ghost use Rattle.sdc_print.specs.Runs.{run_length, seconds, group_text};
+
+use crate::sinks::Sink;
+use sdc_base::{List, NoMemory};
+use sdc_model::{Clock, Pair};
+
+/// Adds the line of each clock with later exclusive clocks: the clock, and all of these. The pairs are in order.
+pub fn push_groups(out: &mut Sink, clocks: &List<Clock>, pairs: &List<Pair>) -> Result<(), NoMemory>
+    requires { ArePairs (length clocks.now) pairs.now }
+    ensures { OnOk result (out.new ≡ added out.old (lines_text (group_lines clocks.now pairs.now 0 clocks.now))) }
+{
+    let mut rest = pairs.as_slice();
+    for (place, clock) in clocks.as_slice().iter().enumerate() {
+        let (group, others) = rest.split_at(group_size(rest, place));
+        push_group(out, clock.name.as_bytes(), clocks, group)?;
+        rest = others;
+    }
+    Ok(())
+}
+
+/// How many pairs from the front on have the clock at a place as their first.
+fn group_size(pairs: &[Pair], place: usize) -> usize
+    ensures size { result ≡ run_length place pairs.now }
+    ensures within { result ≤ length pairs.now }
+{
+    for (size, pair) in pairs.iter().enumerate() {
+        if pair.first as usize != place {
+            return size;
+        }
+    }
+    pairs.len()
+}
+
+/// Adds the line that makes a clock and the second ones of some pairs exclusive, where there are any.
+fn push_group(
+    out: &mut Sink,
+    name: &[u8],
+    clocks: &List<Clock>,
+    pairs: &[Pair],
+) -> Result<(), NoMemory>
+    ensures { OnOk result (out.new ≡ added out.old (group_text name.now clocks.now pairs.now)) }
+{
+    if pairs.is_empty() {
+        return Ok(());
+    }
+    out.push(b"set_clock_groups -asynchronous -group [get_clocks {")?;
+    out.push(name)?;
+    out.push(b"}] -group [get_clocks {")?;
+    push_second_names(out, clocks, pairs)?;
+    out.push(b"}]\n")?;
+    Ok(())
+}
+
+/// Adds the names of the second clocks of pairs, with a blank between each two.
+fn push_second_names(out: &mut Sink, clocks: &List<Clock>, pairs: &[Pair]) -> Result<(), NoMemory>
+    ensures { OnOk result (out.new ≡ added out.old (spaced (names_at clocks.now (seconds pairs.now)))) }
+{
+    for (place, pair) in pairs.iter().enumerate() {
+        if place > 0 {
+            out.push(b" ")?;
+        }
+        push_clock_name(out, clocks, pair.second)?;
+    }
+    Ok(())
+}
+
+/// Adds the name of the clock at a place.
+fn push_clock_name(out: &mut Sink, clocks: &List<Clock>, place: u32) -> Result<(), NoMemory>
+    ensures { OnOk result (out.new ≡ added out.old (name_of (slice_get clocks.now place))) }
+{
+    match clocks.get(place as usize) {
+        Some(clock) => out.push(clock.name.as_bytes()),
+        None => Ok(()),
+    }
+}

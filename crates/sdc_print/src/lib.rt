@@ -1,0 +1,20 @@
+//! Printing: the constraint file (SDC 2.1) that a design and a mode are written as.
+//!
+//! It gives the layer above `print`, the bytes of the file, and `printed_length`, their number without making
+//! them. Both run the same code, into a `Sink` that keeps the bytes or counts them. How each line looks is
+//! defined in `sdc_model`. It leaves reading the file back to the crates that read, and writing it to the caller.
+#![tactic(auto)]
+
+mod clock_printing;
+mod group_printing;
+mod line_laws;
+#[cfg(test)]
+mod printable_modes;
+mod printing;
+mod sinks;
+#[cfg(test)]
+mod tests;
+mod word_printing;
+
+pub use line_laws::lines_are_commands;
+pub use printing::{print, printed_length};

@@ -1,0 +1,76 @@
+//! The printed file.
+
+ghost use Rattle.std.specs.Prelude.{◌≡◌, IfOk, OnOk, length};
+ghost use Rattle.sdc_base.specs.Time.{IsUnit};
+ghost use Rattle.sdc_model.specs.PrintedLine.{lines_text};
+ghost use Rattle.sdc_model.specs.PrintedFile.{IsPrintable, header_lines, printed_file, unit_text};
+ghost use Rattle.sdc_print.specs.Added.{added};
+
+use crate::clock_printing::push_clocks;
+use crate::group_printing::push_groups;
+use crate::sinks::Sink;
+use sdc_base::{List, NoMemory};
+use sdc_model::{Design, Mode};
+use std::alloc::Global;
+
+/// The constraint file (SDC 2.1) that gives a mode over a design, with times in the design's unit: the header, the
+/// clocks in order, and the groups of exclusive clocks. The one error is want of memory.
+pub fn print(alloc: Global, design: &Design, mode: &Mode) -> Result<List<u8>, NoMemory>
+    requires { IsPrintable design.now mode.now }
+    ensures { IfOk result (λ text. text ≡ printed_file design.now mode.now) }
+{
+    let mut out = Sink::Bytes(List::new(alloc));
+    push_file(&mut out, alloc, design, mode)?;
+    match out {
+        Sink::Bytes(bytes) => Ok(bytes),
+        Sink::Count(_) => unreachable!(),
+    }
+}
+
+/// The number of bytes of that file, which is not made: the memory that is taken is that of one time's text. The
+/// one error is want of memory, and that is also the answer where the number passes 64 bits.
+pub fn printed_length(alloc: Global, design: &Design, mode: &Mode) -> Result<u64, NoMemory>
+    requires { IsPrintable design.now mode.now }
+    ensures { IfOk result (λ count. count ≡ length (printed_file design.now mode.now)) }
+{
+    let mut out = Sink::Count(0);
+    push_file(&mut out, alloc, design, mode)?;
+    match out {
+        Sink::Count(count) => Ok(count),
+        Sink::Bytes(_) => unreachable!(),
+    }
+}
+
+/// Adds the file.
+fn push_file(out: &mut Sink, alloc: Global, design: &Design, mode: &Mode) -> Result<(), NoMemory>
+    requires { IsPrintable design.now mode.now }
+    ensures { OnOk result (out.new ≡ added out.old (printed_file design.now mode.now)) }
+{
+    push_header(out, design.unit)?;
+    push_clocks(out, alloc, design.unit, &mode.clocks)?;
+    push_groups(out, &mode.clocks, &mode.exclusive)?;
+    Ok(())
+}
+
+/// Adds the version of SDC and the time unit.
+fn push_header(out: &mut Sink, unit: i64) -> Result<(), NoMemory>
+    ensures { OnOk result (out.new ≡ added out.old (lines_text (header_lines unit))) }
+{
+    out.push(b"set sdc_version 2.1\nset_units -time ")?;
+    out.push(unit_name(unit).as_bytes())?;
+    out.push(b"\n")?;
+    Ok(())
+}
+
+/// A unit in femtoseconds as SDC names it.
+#[tactic(auto, unfolding(sdc_model::specs::PrintedFile::unit_text))]
+fn unit_name(unit: i64) -> &'static str
+    ensures { result.now ≡ unit_text unit }
+{
+    match unit.unsigned_abs() {
+        1_000 => "1ps",
+        10_000 => "10ps",
+        100_000 => "100ps",
+        _ => "1ns",
+    }
+}

@@ -1,0 +1,58 @@
+//! Words of a printed line.
+
+ghost use Rattle.std.specs.Prelude.{◌≡◌, OnOk};
+ghost use Rattle.std.specs.List.{list_all};
+ghost use Rattle.sdc_base.specs.Time.{IsUnit, time_text_of};
+ghost use Rattle.sdc_model.specs.PrintedLine.{is_bare_byte, is_bare_text, spelled, name_word};
+ghost use Rattle.sdc_print.specs.Added.{added};
+
+use crate::sinks::Sink;
+use sdc_base::{NoMemory, time_text};
+use std::alloc::Global;
+
+/// Adds a name that stands outside a list: bare where it may stand so, else in braces.
+pub fn push_name(out: &mut Sink, name: &[u8]) -> Result<(), NoMemory>
+    ensures { OnOk result (out.new ≡ added out.old (spelled (name_word name.now))) }
+{
+    if is_bare(name) {
+        return out.push(name);
+    }
+    out.push(b"{")?;
+    out.push(name)?;
+    out.push(b"}")?;
+    Ok(())
+}
+
+/// Whether a text may stand bare.
+fn is_bare(text: &[u8]) -> bool
+    ensures { result ≡ is_bare_text text.now }
+{
+    !text.is_empty() && are_bare(text)
+}
+
+/// Whether all bytes of a text may stand in a bare word.
+fn are_bare(text: &[u8]) -> bool
+    ensures { result ≡ list_all is_bare_byte text.now }
+{
+    text.iter().all(|byte| may_stand_bare(*byte))
+}
+
+/// Whether a byte may stand in a bare word.
+fn may_stand_bare(byte: u8) -> bool
+    ensures { result ≡ is_bare_byte byte }
+{
+    matches!(
+        byte,
+        b'A'..=b'Z' | b'a'..=b'z' | b'0'..=b'9' | b'_' | b'.' | b'/' | b'+' | b'-' | b':' | b',' | b'='
+    )
+}
+
+/// Adds a time in femtoseconds as its number of units, `unit` being a unit in femtoseconds.
+pub fn push_time(out: &mut Sink, alloc: Global, unit: i64, time: i64) -> Result<(), NoMemory>
+    requires { IsUnit unit }
+    ensures { OnOk result (out.new ≡ added out.old (time_text_of time unit)) }
+{
+    let text = time_text(alloc, time, unit)?;
+    out.push(text.as_bytes())?;
+    Ok(())
+}
