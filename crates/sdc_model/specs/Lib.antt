@@ -14,6 +14,7 @@ pub mod Commands
 pub mod EdgesText
 pub mod Exclusive
 pub mod Items
+pub mod MergedMode
 pub mod ModeFiles
 pub mod PlainViews
 pub mod PrintedCommands

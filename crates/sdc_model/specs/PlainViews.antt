@@ -1,9 +1,11 @@
 -- What a list of modes must have so that its clocks can be merged by their own waveforms alone. This project's own.
 -- Every clock is primary, each has its wave, and the clocks can be counted.
-use Rattle.std.specs.Prelude.{◌≡◌, ◌+◌, ℕ, List, [], ◌∷◌, length}
+use Rattle.std.specs.Prelude.{◌≡◌, ◌+◌, ℕ, List, [], ◌∷◌, ◌++◌, length, map}
 use Rattle.sdc_model.specs.declared.clocks.Clock.{Clock}
+use Rattle.sdc_model.specs.declared.clocks.Wave.{Wave}
 use Rattle.sdc_model.specs.declared.clocks.Form.{Form}
 use Rattle.sdc_model.specs.declared.clocks.Form.TheVariants.{Primary, Generated}
+use Rattle.sdc_model.specs.declared.modes.Mode.{Mode}
 use Rattle.sdc_model.specs.declared.views.View.{View}
 
 abbrev pub IsPrimary : Form → Type 0
@@ -28,3 +30,24 @@ HaveWaves (view ∷ views) = (length view.waves ≡ length view.mode.clocks) × 
 abbrev pub clock_count : List View → ℕ
 clock_count [] = 0
 clock_count (view ∷ views) = length view.mode.clocks + clock_count views
+
+-- the waveform that a clock has of its own
+abbrev pub own_wave : Form → List Wave
+own_wave (Primary wave) = wave ∷ []
+own_wave (Generated source master shape invert) = []
+
+abbrev pub own_waves : List Clock → List Wave
+own_waves [] = []
+own_waves (clock ∷ clocks) = own_wave clock.form ++ own_waves clocks
+
+-- a mode over no pin
+abbrev pub view_of : Mode → View
+view_of mode = record { mode = mode; waves = own_waves mode.clocks; arrivals = record { at = [] }; clock_map = [] }
+
+abbrev pub views_of : List Mode → List View
+views_of modes = map view_of modes
+
+-- how many clocks the modes have
+abbrev pub clocks_in : List Mode → ℕ
+clocks_in [] = 0
+clocks_in (mode ∷ modes) = length mode.clocks + clocks_in modes

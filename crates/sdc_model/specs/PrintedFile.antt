@@ -112,6 +112,11 @@ ArePrintableClocks before [] = Unit {0}
 ArePrintableClocks before (clock ∷ clocks) =
     IsPrintableClock clock × (is_taken clock.name before ≡ false) × ArePrintableClocks (before ++ clock ∷ []) clocks
 
+-- modes of such clocks
+abbrev pub ModesArePrintable : List Mode → Type 0
+ModesArePrintable [] = Unit {0}
+ModesArePrintable (mode ∷ modes) = ArePrintableClocks [] mode.clocks × ModesArePrintable modes
+
 -- the first of some pairs, if there is one, comes behind a pair in the order of both places
 abbrev pub IsBehind : Pair → List Pair → Type 0
 IsBehind pair [] = Unit {0}
@@ -143,3 +148,10 @@ pub record IsPrintable (design : Design) (mode : Mode) : Type 0 where
   pub clocks : ArePrintableClocks [] mode.clocks
   pub pairs : ArePairs (length mode.clocks) mode.exclusive
   pub alone : IsOfClocks mode
+
+-- a clock, and a mode, apart from the lines of the commands that made its clocks
+abbrev pub without_line : Clock → Clock
+without_line clock = record clock { line = 0 }
+
+abbrev pub without_lines : Mode → Mode
+without_lines mode = record mode { clocks = map without_line mode.clocks }

@@ -1,0 +1,94 @@
+//! The merged mode of several modes, with all that a report says of it. This project's own.
+
+use crate::modes::Mode;
+use crate::pins::{ClockEdge, Node, Pin, Side};
+use crate::views::ClockMap;
+use sdc_base::{Duplicate, List, NoMemory, Text};
+use std::alloc::Global;
+
+/// A relation at an endpoint that the merged mode times without need or too strictly, on a path from the launch
+/// to the endpoint. Limits are femtoseconds; none is a relation that no mode times.
+#[derive(Debug, Drop, PartialEq, Eq, PartialOrd, Ord)]
+pub struct Listed {
+    pub end: Pin,
+    pub launch: ClockEdge,
+    pub capture: ClockEdge,
+    pub side: Side,
+    pub path: List<Node>,
+    pub merged: i64,
+    pub required: Option<i64>,
+}
+
+impl Duplicate for Listed {
+    fn copy(&self, alloc: Global) -> Result<Listed, NoMemory> {
+        let end = self.end.copy(alloc)?;
+        let launch = self.launch.copy(alloc)?;
+        let capture = self.capture.copy(alloc)?;
+        let side = self.side.copy(alloc)?;
+        let path = self.path.copy(alloc)?;
+        let merged = self.merged.copy(alloc)?;
+        let required = self.required.copy(alloc)?;
+        Ok(Listed {
+            end,
+            launch,
+            capture,
+            side,
+            path,
+            merged,
+            required,
+        })
+    }
+}
+
+/// A command of a mode, by the mode's place and the command's line, that the merged mode does not have.
+#[derive(Debug, Drop, PartialEq, Eq, PartialOrd, Ord)]
+pub struct Left {
+    pub mode: u32,
+    pub line: u32,
+    pub command: Text,
+}
+
+impl Duplicate for Left {
+    fn copy(&self, alloc: Global) -> Result<Left, NoMemory> {
+        let mode = self.mode.copy(alloc)?;
+        let line = self.line.copy(alloc)?;
+        let command = self.command.copy(alloc)?;
+        Ok(Left {
+            mode,
+            line,
+            command,
+        })
+    }
+}
+
+/// The merged mode, its clocks with the modes' clocks that they are, the relations that it times without need or
+/// too strictly, and the commands that it does not have.
+#[derive(Debug, Drop, PartialEq, Eq, PartialOrd, Ord)]
+pub struct Merged {
+    pub mode: Mode,
+    pub clocks: ClockMap,
+    pub listed: List<Listed>,
+    pub left: List<Left>,
+}
+
+impl Duplicate for Merged {
+    fn copy(&self, alloc: Global) -> Result<Merged, NoMemory> {
+        let mode = self.mode.copy(alloc)?;
+        let clocks = self.clocks.copy(alloc)?;
+        let listed = self.listed.copy(alloc)?;
+        let left = self.left.copy(alloc)?;
+        Ok(Merged {
+            mode,
+            clocks,
+            listed,
+            left,
+        })
+    }
+}
+
+/// Why modes have no merged mode.
+#[derive(Clone, Copy, Debug, PartialEq, Eq, PartialOrd, Ord)]
+pub enum MergeStop {
+    /// Counting and listing take more steps than the budget.
+    Budget(u64),
+}
