@@ -1,0 +1,3 @@
+pub mod Exact
+pub mod RowLists
+pub mod StandingLists
