@@ -1,3 +1,4 @@
 pub mod Exact
 pub mod RowLists
 pub mod StandingLists
+pub mod RankLists
