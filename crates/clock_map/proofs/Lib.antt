@@ -2,3 +2,4 @@ pub mod Exact
 pub mod RowLists
 pub mod StandingLists
 pub mod RankLists
+pub mod ClockLists

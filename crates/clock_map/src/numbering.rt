@@ -9,13 +9,13 @@ use std::alloc::Global;
 use std::collections::BTreeMap;
 
 /// A number for each identity, the same for equal ones alone.
-pub(crate) fn numbers_of(alloc: Global, identities: Vec<Identity>) -> Result<List<u32>, NoMemory>
-    requires few { length identities.items ≤ 2 ^ 32 }
-    ensures { IfOk result (λ numbers. AreNumbers identities.items numbers) }
+pub(crate) fn numbers_of(alloc: Global, identities: List<Identity>) -> Result<List<u32>, NoMemory>
+    requires few { length identities ≤ 2 ^ 32 }
+    ensures { IfOk result (λ numbers. AreNumbers identities numbers) }
 {
     let mut known = BTreeMap::new(alloc);
     let mut numbers = List::new(alloc);
-    for identity in identities {
+    for identity in Vec::from(identities) {
         let number = number_of(&mut known, identity)?;
         numbers.push(number)?;
     }

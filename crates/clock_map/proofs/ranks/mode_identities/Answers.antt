@@ -18,5 +18,5 @@ loop-standing-preserved c =
     let read : IsPermutation all c.deref.result.now =
       subst (λ (xs : List Standing). IsPermutation all xs) (sym c.deref.ensures.value) moved in
     identities_step all c.deref.result.now c.loop-standing.standing-index clock c.rank_in-rank.result c.in_ok-definition.definition
-      c.loop-standing.identities.items c.push.new.self.items within is read c.in_ok-definition.ensures c.rank_in-rank.ensures
-      c.in_ok-push.ensures.items c.loop-standing.invariant
+      c.loop-standing.identities c.push.new.self within is read c.in_ok-definition.ensures c.rank_in-rank.ensures
+      c.in_ok-push.ensures.ok c.loop-standing.invariant

@@ -4,4 +4,4 @@ use Rattle.sdc_model.specs.ClockIdentity.{identity_among}
 use Rattle.clock_map.proofs.ranks.mode_identities.Given as goal
 
 abbrev pub invariant-loop-standing : goal.invariant-loop-standing
-invariant-loop-standing l = l.identities.items ≡ map (identity_among l.standings) (take l.standing-index l.standings)
+invariant-loop-standing l = l.identities ≡ map (identity_among l.standings) (take l.standing-index l.standings)
