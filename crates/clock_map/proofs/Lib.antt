@@ -3,3 +3,4 @@ pub mod RowLists
 pub mod StandingLists
 pub mod RankLists
 pub mod ClockLists
+pub mod NumberLists

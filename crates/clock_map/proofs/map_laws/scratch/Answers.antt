@@ -1,6 +1,6 @@
 use Rattle.std.proofs.Common.{rules}
 use Rattle.clock_map.proofs.map_laws.scratch.Goals as goal
-use Rattle.clock_map.proofs.RankLists.{rank_splits}
+use Rattle.clock_map.proofs.NumberLists.{knows_all, knows_step}
 
 pub returns : goal.returns
-returns c = let h = rank_splits in search rules
+returns c = let h = knows_all in let j = knows_step in search rules
