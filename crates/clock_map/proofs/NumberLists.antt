@@ -10,7 +10,7 @@ use Rattle.std.specs.BTreeMap.{is_at}
 use Rattle.std.specs.Map.{lookup}
 use Rattle.std.proofs.lemmas.Cmp.{tied_itself}
 use Rattle.std.proofs.lemmas.Option.{slice_get_within, slice_get_past, slice_get-get_or}
-use Rattle.std.proofs.lemmas.List.{length_push}
+use Rattle.std.proofs.lemmas.List.{length_push, take_more, take_all, length-take-le}
 use Rattle.sdc_model.specs.declared.identities.Identity.{Identity}
 use Rattle.sdc_model.specs.contracts.identities.IdentityOrd.TheImpl.Laws as identity_laws
 use Rattle.clock_map.specs.Numbering.{RisesTo, AreNumbers, Numbers, identity_cmp}
@@ -154,15 +154,6 @@ known_new known known' identities numbers identity number absent number_is updat
       rises = rw longer (rises_new 0 numbers (btree_map_len known) number knows.rises number_is);
     }
 
-pub knows_step : (known known' : BTreeMap Identity ℕ) (identities : List Identity) (numbers numbers' : List ℕ) (identity : Identity) (number : ℕ)
-    → numbers' ≡ numbers ++ number ∷ [] → Numbers known identity number known'
-    → Knows known identities numbers → Knows known' (identities ++ identity ∷ []) numbers'
-knows_step known known' identities numbers numbers' identity number numbers_is numbered knows =
-    subst (λ (ns : List ℕ). Knows known' (identities ++ identity ∷ []) ns) (sym numbers_is)
-      (elim numbered [
-        inl old ↦ known_again known known' identities numbers identity number old.0 old.1 knows
-      | inr new ↦ known_new known known' identities numbers identity number new.0 new.1 new.2 new.3 knows ])
-
 pub knows_all : (known : BTreeMap Identity ℕ) (identities : List Identity) (numbers : List ℕ)
     → Knows known identities numbers → AreNumbers identities numbers
 knows_all known identities numbers knows = record {
@@ -182,3 +173,25 @@ knows_all known identities numbers knows = record {
   last = btree_map_len known;
   rises = knows.rises;
 }
+
+pub knows_step : (known known' : BTreeMap Identity ℕ) (all : List Identity) (i : ℕ) (numbers numbers' : List ℕ) (identity : Identity) (number : ℕ)
+    → i < length all → identity ≡ get_or all i identity
+    → numbers' ≡ numbers ++ number ∷ [] → Numbers known identity number known'
+    → Knows known (take i all) numbers → Knows known' (take (i + 1) all) numbers'
+knows_step known known' all i numbers numbers' identity number within is numbers_is numbered knows =
+    let grown : take (i + 1) all ≡ take i all ++ identity ∷ [] = take_more all i identity within ∙ ap (λ last. take i all ++ last ∷ []) (sym is) in
+    rw (numbers_is, grown)
+      (elim numbered [
+        inl old ↦ known_again known known' (take i all) numbers identity number old.0 old.1 knows
+      | inr new ↦ known_new known known' (take i all) numbers identity number new.0 new.1 new.2 new.3 knows ])
+
+pub knows_few : (known : BTreeMap Identity ℕ) (all : List Identity) (i : ℕ) (numbers : List ℕ) → i ≤ length all → Knows known (take i all) numbers → btree_map_len known ≤ i
+knows_few known all i numbers within knows =
+    let most = rises_at_most 0 numbers (btree_map_len known) knows.rises in
+    let long = knows.length_is in
+    let taken = length-take-le i all within in
+    omega arith
+
+pub knows_done : (known : BTreeMap Identity ℕ) (all : List Identity) (i : ℕ) (numbers : List ℕ) → length all ≤ i → Knows known (take i all) numbers → AreNumbers all numbers
+knows_done known all i numbers done knows =
+    subst (λ (xs : List Identity). AreNumbers xs numbers) (take_all i all done) (knows_all known (take i all) numbers knows)
