@@ -4,3 +4,4 @@ pub mod StandingLists
 pub mod RankLists
 pub mod ClockLists
 pub mod NumberLists
+pub mod NameLists
