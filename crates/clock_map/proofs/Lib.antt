@@ -5,3 +5,4 @@ pub mod RankLists
 pub mod ClockLists
 pub mod NumberLists
 pub mod NameLists
+pub mod NameSets

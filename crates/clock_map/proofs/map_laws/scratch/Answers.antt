@@ -1,6 +1,6 @@
 use Rattle.std.proofs.Common.{rules}
 use Rattle.clock_map.proofs.map_laws.scratch.Goals as goal
-use Rattle.clock_map.proofs.NameLists.{few_taken, taken_more, held_second}
+use Rattle.clock_map.proofs.NameSets.{names_step, name_transfers}
 
 pub returns : goal.returns
-returns c = let h = few_taken in let k = taken_more in let l = held_second in search rules
+returns c = let h = names_step in let k = name_transfers in search rules
