@@ -6,3 +6,4 @@ pub mod ClockLists
 pub mod NumberLists
 pub mod NameLists
 pub mod NameSets
+pub mod MergedLists
