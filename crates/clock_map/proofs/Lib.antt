@@ -7,3 +7,4 @@ pub mod NumberLists
 pub mod NameLists
 pub mod NameSets
 pub mod MergedLists
+pub mod PlainMaps

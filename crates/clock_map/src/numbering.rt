@@ -14,7 +14,7 @@ pub(crate) fn numbers_of(
     alloc: Global,
     identities: &List<Identity>,
 ) -> Result<List<u32>, NoMemory>
-    requires few { length identities.now ≤ 2 ^ 32 }
+    requires { length identities.now ≤ 2 ^ 32 }
     ensures { IfOk result (AreNumbers identities.now) }
 {
     let mut known = BTreeMap::new(alloc);
