@@ -1,7 +1,10 @@
 -- How things are numbered in the order in which they first appear.
 -- Each number is one that stands before it, or the next new one.
-use Rattle.std.specs.Prelude.{◌≡◌, ◌<◌, ◌⊎◌, ◌↔◌, ℕ, suc, List, [], ◌∷◌, length, slice_get}
+use Rattle.std.specs.Prelude.{◌≡◌, ◌+◌, ◌<◌, ◌⊎◌, ◌↔◌, ℕ, suc, List, [], ◌∷◌, length, Option, Some, None, slice_get}
+use Rattle.std.specs.declared.cmp.Ordering.{Ordering}
+use Rattle.std.specs.BTreeMap.{BTreeMap, get, Updates, IsUnchanged, btree_map_len}
 use Rattle.sdc_model.specs.declared.identities.Identity.{Identity}
+use Rattle.sdc_model.specs.contracts.identities.IdentityOrd.TheImpl as identity_order
 
 -- numbers of which those below `next` are known, and `last` behind them all
 abbrev pub RisesTo : ℕ → List ℕ → ℕ → Type 0
@@ -16,3 +19,13 @@ pub record AreNumbers (identities : List Identity) (numbers : List ℕ) : Type 0
       → (slice_get numbers p ≡ slice_get numbers q) ↔ (slice_get identities p ≡ slice_get identities q)
   pub last : ℕ
   pub rises : RisesTo 0 numbers last
+
+abbrev pub identity_cmp : Identity → Identity → Ordering
+identity_cmp = (identity_order.ghosts).cmp
+
+-- what numbering an identity leaves: it has its known number, or the next new one, which is known from then on
+abbrev pub Numbers : BTreeMap Identity ℕ → Identity → ℕ → BTreeMap Identity ℕ → Type 0
+Numbers before identity number after =
+    ((get identity_cmp before identity ≡ Some number) × IsUnchanged before after)
+    ⊎ ((get identity_cmp before identity ≡ None) × (number ≡ btree_map_len before)
+    × Updates identity_cmp before after identity (Some number) × (btree_map_len after ≡ btree_map_len before + 1))

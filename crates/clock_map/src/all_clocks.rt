@@ -14,28 +14,29 @@ use std::alloc::Global;
 pub(crate) fn all_clocks(
     alloc: Global,
     modes: &List<View>,
-) -> Result<(List<Standing>, Vec<Identity>), NoMemory>
+) -> Result<(List<Standing>, List<Identity>), NoMemory>
     requires primary { ModesArePrimary modes.now }
     requires waves { HaveWaves modes.now }
     ensures standings { IfOk result (λ found. found.0 ≡ standings_of modes.now []) }
-    ensures identities { IfOk result (λ found. found.1.items ≡ identities_of modes.now []) }
+    ensures identities { IfOk result (λ found. found.1 ≡ identities_of modes.now []) }
 {
     let mut standings = List::new(alloc);
-    let mut identities = Vec::new(alloc);
+    let mut identities = List::new(alloc);
     for view in modes.as_slice() {
         let of_mode = mode_standings(alloc, view)?;
-        identities.extend(mode_identities(alloc, &of_mode)?)?;
-        add_standings(&mut standings, of_mode)?;
+        let made = mode_identities(alloc, &of_mode)?;
+        append(&mut identities, made)?;
+        append(&mut standings, of_mode)?;
     }
     Ok((standings, identities))
 }
 
-/// Adds clocks at the end.
-fn add_standings(standings: &mut List<Standing>, more: List<Standing>) -> Result<(), NoMemory>
-    ensures { OnOk result (standings.new ≡ standings.old ++ more) }
+/// Adds items at the end. The one error is want of memory, which may leave a part of them there.
+fn append<T: Drop>(list: &mut List<T>, more: List<T>) -> Result<(), NoMemory>
+    ensures { OnOk result (list.new ≡ list.old ++ more) }
 {
-    for standing in Vec::from(more) {
-        standings.push(standing)?;
+    for item in Vec::from(more) {
+        list.push(item)?;
     }
     Ok(())
 }

@@ -39,7 +39,7 @@ pub fn map_clocks(alloc: Global, modes: &List<View>) -> Result<ClockMap, NoMemor
     ensures { IfOk result (IsClockMap modes.now) }
 {
     let (standings, identities) = all_clocks::all_clocks(alloc, modes)?;
-    let numbers = numbering::numbers_of(alloc, identities)?;
+    let numbers = numbering::numbers_of(alloc, &identities)?;
     let merged = merged::merged_clocks(alloc, &standings, &numbers)?;
     let maps = rows::rows_of(alloc, modes, &numbers)?;
     Ok(ClockMap {

@@ -1,5 +1,9 @@
 //! The merged clocks, each made of the first clock that it is.
 
+ghost use Rattle.std.specs.Prelude.{◌≡◌, length, IfOk, OnOk};
+ghost use Rattle.sdc_model.specs.ClockIdentity as identity;
+ghost use Rattle.clock_map.specs.MergedClocks.{HaveSameNames, AddsMerged, Rises, AreMerged};
+
 use crate::names::merged_name;
 use sdc_base::{Duplicate, List, NoMemory, Text};
 use sdc_model::{Clock, Definition, Standing, Wave};
@@ -19,7 +23,11 @@ pub(crate) fn merged_clocks(
     alloc: Global,
     standings: &List<Standing>,
     numbers: &List<u32>,
-) -> Result<Merged, NoMemory> {
+) -> Result<Merged, NoMemory>
+    requires beside { length numbers.now ≡ length standings.now }
+    requires rises { Rises numbers.now }
+    ensures { IfOk result (λ merged. AreMerged standings.now numbers.now merged.clocks merged.waves) }
+{
     let own = own_names(alloc, standings)?;
     let standings = standings.as_slice();
     let mut merged = Merged {
@@ -36,7 +44,9 @@ pub(crate) fn merged_clocks(
 }
 
 /// The names of all clocks of the modes.
-fn own_names(alloc: Global, standings: &List<Standing>) -> Result<BTreeSet<Text>, NoMemory> {
+fn own_names(alloc: Global, standings: &List<Standing>) -> Result<BTreeSet<Text>, NoMemory>
+    ensures { IfOk result (λ names. HaveSameNames names.keys (identity.names_of standings.now)) }
+{
     let mut names = BTreeSet::new(alloc);
     for standing in standings.as_slice() {
         let name = standing.name.copy(alloc)?;
@@ -51,7 +61,9 @@ fn add_merged(
     own: &BTreeSet<Text>,
     merged: &mut Merged,
     first: &Standing,
-) -> Result<(), NoMemory> {
+) -> Result<(), NoMemory>
+    ensures { OnOk result (AddsMerged own.now.keys first.now merged.old merged.new) }
+{
     let name = merged_name(alloc, own, &merged.names, &first.name)?;
     let kept = name.copy(alloc)?;
     merged.names.insert(kept)?;
@@ -62,7 +74,9 @@ fn add_merged(
 }
 
 /// The clock of a name and a definition; no line made it.
-fn clock_with(alloc: Global, name: Text, definition: &Definition) -> Result<Clock, NoMemory> {
+fn clock_with(alloc: Global, name: Text, definition: &Definition) -> Result<Clock, NoMemory>
+    ensures { IfOk result (λ clock. clock ≡ identity.clock_with name definition.now) }
+{
     let sources = definition.sources.copy(alloc)?;
     Ok(Clock {
         line: 0,

@@ -1,6 +1,7 @@
 //! The names of merged clocks.
 
-ghost use Rattle.std.specs.Prelude.{IfOk, ◌≡◌};
+ghost use Rattle.std.specs.Prelude.{◌≡◌, ◌⊎◌, ◌↔◌, IfOk, IsTrue};
+ghost use Rattle.std.specs.List.{Contains};
 ghost use Rattle.sdc_model.specs.ClockIdentity as identity;
 
 use itoa::Buffer;
@@ -34,15 +35,23 @@ fn free_name(
 ) -> Result<Text, NoMemory>
     ensures { IfOk result (λ name. identity.IsFreeName own.now.keys earlier.now.keys first.now name) }
 {
-    let taken = own.len() as u64 + earlier.len() as u64;
+    let most = own.len() as u64 + earlier.len() as u64;
     let mut k = 1_u64;
-    loop {
-        let name = numbered_name(alloc, first, k)?;
-        if !own.contains(&name) && !earlier.contains(&name) {
-            return Ok(name);
-        }
+    let mut name = numbered_name(alloc, first, k)?;
+    while is_taken(own, earlier, &name) {
+        // no more names are taken than there are
+        prove!(k <= most);
         k += 1;
+        name = numbered_name(alloc, first, k)?;
     }
+    Ok(name)
+}
+
+/// Whether a clock of a mode or an earlier merged clock has the name.
+fn is_taken(own: &BTreeSet<Text>, earlier: &BTreeSet<Text>, name: &Text) -> bool
+    ensures { IsTrue result ↔ (Contains own.now.keys name.now ⊎ Contains earlier.now.keys name.now) }
+{
+    own.contains(name) || earlier.contains(name)
 }
 
 /// The name with `_k`.

@@ -12,12 +12,12 @@ use std::alloc::Global;
 pub(crate) fn mode_identities(
     alloc: Global,
     standings: &List<Standing>,
-) -> Result<Vec<Identity>, NoMemory>
-    ensures { IfOk result (λ identities. identities.items ≡ identities_among standings.now) }
+) -> Result<List<Identity>, NoMemory>
+    ensures { IfOk result (λ identities. identities ≡ identities_among standings.now) }
 {
     let mut sorted = Vec::from(standings.copy(alloc)?);
     sorted.sort()?;
-    let mut identities = Vec::new(alloc);
+    let mut identities = List::new(alloc);
     for standing in standings.as_slice() {
         let definition = standing.definition.copy(alloc)?;
         let rank = rank_in(&sorted, standing);

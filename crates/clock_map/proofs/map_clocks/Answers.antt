@@ -1,0 +1,30 @@
+use Rattle.std.proofs.Common.{◌≡◌, ◌∙◌, ◌≤◌, ◌^◌, length, ℕ, arith, rules, sym, ap, subst}
+use Rattle.clock_map.proofs.PlainMaps.{is_map, length-standings_of, length-identities_of}
+use Rattle.sdc_model.specs.PlainViews.{clock_count}
+use Rattle.clock_map.proofs.map_clocks.Goals as goal
+
+pub numbers_of-requires : goal.numbers_of-requires
+numbers_of-requires c =
+    let many : length c.in_ok-standings.identities ≡ clock_count c.args.modes.now =
+      ap length c.in_ok-standings.ensures.identities ∙ length-identities_of c.args.modes.now c.requires.waves in
+    omega (arith, c.requires.few)
+
+pub merged_clocks-requires-clause-beside : goal.merged_clocks-requires-clause-beside
+merged_clocks-requires-clause-beside c =
+    c.in_ok-numbers.ensures.length_is
+    ∙ ap length c.in_ok-standings.ensures.identities ∙ length-identities_of c.args.modes.now c.requires.waves
+    ∙ sym (length-standings_of c.args.modes.now c.requires.waves) ∙ sym (ap length c.in_ok-standings.ensures.standings)
+
+pub merged_clocks-requires-clause-rises : goal.merged_clocks-requires-clause-rises
+merged_clocks-requires-clause-rises c = (c.in_ok-numbers.ensures.last, c.in_ok-numbers.ensures.rises)
+
+pub rows_of-requires : goal.rows_of-requires
+rows_of-requires c =
+    c.in_ok-numbers.ensures.length_is
+    ∙ ap length c.in_ok-standings.ensures.identities ∙ length-identities_of c.args.modes.now c.requires.waves
+
+pub returns : goal.returns
+returns c =
+    is_map c.args.modes.now c.in_ok-standings.standings c.in_ok-standings.identities c.in_ok-numbers.numbers _ c.requires.primary c.requires.waves
+      c.in_ok-standings.ensures.standings c.in_ok-standings.ensures.identities c.in_ok-numbers.ensures c.in_ok-merged.ensures
+      c.in_ok-maps.ensures.all c.in_ok-maps.ensures.shape
