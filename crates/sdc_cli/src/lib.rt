@@ -15,6 +15,8 @@ mod file_outputs;
 mod mode_file;
 mod mode_files;
 mod outputs;
+mod report_tree;
+mod reports;
 mod tool;
 
 pub use exit_numbers::exit_number;
