@@ -1,5 +1,6 @@
 pub mod ExitNumbers
-pub mod Refusals
 pub mod MergeOutput
+pub mod MergeRows
 pub mod Outputs
+pub mod Refusals
 pub mod ReportTree

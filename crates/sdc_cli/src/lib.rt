@@ -12,6 +12,7 @@ mod exit_numbers;
 mod fault_count;
 mod file_inputs;
 mod file_outputs;
+mod merge_rows;
 mod mode_file;
 mod mode_files;
 mod outputs;
