@@ -3,3 +3,4 @@ pub mod BothWritten
 pub mod Budgets
 pub mod EdgeLines
 pub mod ModeSteps
+pub mod SaidClocks
