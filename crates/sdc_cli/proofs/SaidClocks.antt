@@ -1,4 +1,4 @@
--- What a clock file says can be printed.
+-- What a clock file says can be printed, its edges have relations, and its clocks are primary.
 use Rattle.std.proofs.Common.{◌≡◌, ◌+◌, ◌%◌, ◌^◌, ◌<◌, ◌≤◌, ◌&&◌, ℕ, ℤ, pos, negsuc, Bool, true, false, not, List, [], ◌∷◌, ◌++◌, Option, Some, None, Result, Ok, Err, inl, inr, refl, sym, ◌∙◌, ap, subst, append_assoc, append-nil, arith, codes}
 use Rattle.std.proofs.Math.Nat.{mod-le}
 use Rattle.std.proofs.lemmas.Bool.Decides.{nat_tests}
@@ -9,6 +9,8 @@ use Rattle.std.specs.Option.{IfSome, option_and_then}
 use Rattle.sdc_base.specs.declared.memory.At.{At}
 use Rattle.sdc_base.specs.Number.{read_number}
 use Rattle.sdc_model.specs.declared.clocks.Clock.{Clock}
+use Rattle.sdc_model.specs.declared.clocks.Form.{Form}
+use Rattle.sdc_model.specs.declared.clocks.Form.TheVariants.{Primary}
 use Rattle.sdc_model.specs.declared.clocks.Wave.{Wave}
 use Rattle.sdc_model.specs.declared.commands.Command.{Command}
 use Rattle.sdc_model.specs.declared.commands.Part.{Part}
@@ -16,8 +18,11 @@ use Rattle.sdc_model.specs.declared.commands.Word.{Word}
 use Rattle.sdc_model.specs.declared.kinds.TclKind.{TclKind}
 use Rattle.sdc_model.specs.declared.modes.Mode.{Mode}
 use Rattle.sdc_model.specs.ClockFile.{SoFar, is_name, is_taken, virtual_clock, with_clock, wave_given, plain_clock, waved_clock, create_clock, grouped, group_words, set_clock_groups, keep_for, does_named, does, do_all, clock_mode, or_fault, mode_of, SaysMode}
+use Rattle.sdc_model.specs.EdgesText.{AreTimed, edges_of, HaveTimes}
 use Rattle.sdc_model.specs.Items.{items}
+use Rattle.sdc_model.specs.PlainViews.{ArePrimary, IsPrimary}
 use Rattle.sdc_model.specs.PrintedFile.{ArePrintableClocks, IsPrintableClock, IsPrintableWave}
+use Rattle.sdc_model.specs.Relation.{IsEdgeOf}
 use Rattle.sdc_model.specs.ClockGroups.{group_of}
 use Rattle.sdc_model.specs.Words.{only_text, is_text}
 use Rattle.sdc_model.specs.Waveform.{time_within, time_from, nanoseconds, period_of, plain_wave, moved_down, wave_within, wave_of, waveform_of}
@@ -179,3 +184,35 @@ split_is_printable (Ok commands) mode e =
 pub said_is_printable : {bytes : List ℕ} {mode : Mode} → SaysMode bytes (Ok mode) → ArePrintableClocks [] mode.clocks
 said_is_printable {bytes = bytes} {mode = mode} (inl said) = split_is_printable said.1.0 mode said.1.2
 said_is_printable {bytes = bytes} {mode = mode} (inr other) = absurd (cc)
+
+-- ---- what printable clocks have
+
+rise_is_edge : (wave : Wave) → IsPrintableWave wave → IsEdgeOf wave.rise wave.period
+rise_is_edge wave p =
+    let a = p.period in let b = p.rise in
+    (omega (arith, ints), omega (arith, ints), omega (arith, ints), omega (arith, ints))
+
+fall_is_edge : (wave : Wave) → IsPrintableWave wave → IsEdgeOf wave.fall wave.period
+fall_is_edge wave p =
+    let a = p.period in let b = p.rise in let c = p.fall in
+    (omega (arith, ints), omega (arith, ints), omega (arith, ints), omega (arith, ints))
+
+form_has_times : (name : List ℕ) (form : Form) (wave : Wave) → form ≡ Primary wave → IsPrintableWave wave → AreTimed (edges_of name form)
+form_has_times name form wave e p =
+    subst (λ (f : Form). AreTimed (edges_of name f)) (sym e) (rise_is_edge wave p, (fall_is_edge wave p, tt))
+
+-- the edges of printable clocks have relations
+pub printable_has_times : (clocks before : List Clock) → ArePrintableClocks before clocks → HaveTimes clocks
+printable_has_times [] before p = tt
+printable_has_times (clock ∷ clocks) before p = (
+  form_has_times clock.name clock.form p.0.0 (ap (λ (c : Clock). c.form) p.0.1) p.0.2,
+  printable_has_times clocks (before ++ clock ∷ []) p.2,
+)
+
+-- printable clocks are primary
+pub printable_is_primary : (clocks before : List Clock) → ArePrintableClocks before clocks → ArePrimary clocks
+printable_is_primary [] before p = tt
+printable_is_primary (clock ∷ clocks) before p = (
+  subst IsPrimary (sym (ap (λ (c : Clock). c.form) p.0.1)) tt,
+  printable_is_primary clocks (before ++ clock ∷ []) p.2,
+)
