@@ -4,3 +4,4 @@ pub mod Budgets
 pub mod EdgeLines
 pub mod ModeSteps
 pub mod ReportTrees
+pub mod SaidClocks
