@@ -1,2 +1,4 @@
 pub mod EdgeLines
+pub mod ItemSteps
 pub mod ModeSteps
+pub mod PlaceSteps

@@ -1,2 +1,4 @@
 pub mod ExitNumbers
+pub mod Places
 pub mod Refusals
+pub mod Waves

@@ -12,9 +12,12 @@ mod exit_numbers;
 mod fault_count;
 mod file_inputs;
 mod file_outputs;
+mod items;
 mod mode_file;
 mod mode_files;
+mod named_clocks;
 mod tool;
+mod waveforms;
 
 pub use exit_numbers::exit_number;
 pub use file_inputs::FileInputs;
