@@ -6,6 +6,7 @@
 //! answer; it leaves the process itself, its words and its end, to the program.
 #![tactic(auto)]
 
+mod clock_groups;
 mod command_line;
 mod edges_report;
 mod exit_numbers;
