@@ -1,5 +1,9 @@
 pub mod EdgeLines
+pub mod ExclusiveSteps
+pub mod GroupPlaces
 pub mod GroupSteps
 pub mod ItemSteps
 pub mod ModeSteps
+pub mod PairLists
 pub mod PlaceSteps
+pub mod RisingPairs

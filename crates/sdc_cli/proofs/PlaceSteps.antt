@@ -1,8 +1,8 @@
 -- Places of clocks by their names, as clocks are added.
-use Rattle.std.proofs.Common.{◌≡◌, ◌+◌, ◌||◌, ℕ, suc, Bool, true, false, cond, List, [], ◌∷◌, ◌++◌, length, Option, Some, None, String, refl, sym, ◌∙◌, ap, arith}
+use Rattle.std.proofs.Common.{◌≡◌, ◌+◌, ◌||◌, ℕ, Bool, true, false, cond, List, [], ◌∷◌, ◌++◌, length, Option, Some, None, String, refl, sym, ◌∙◌, ap, arith}
 use Rattle.std.proofs.lemmas.Slice.Eq.{bytes_eq-Decides}
 use Rattle.std.proofs.lemmas.Map.Text.{btree_map_updates_text}
-use Rattle.std.specs.BTreeMap.{BTreeMap, UpdatesBy, get_by_text}
+use Rattle.std.specs.BTreeMap.{BTreeMap, UpdatesBy}
 use Rattle.std.specs.Cmp.Lexicographic.{slice_cmp}
 use Rattle.std.specs.Option.{is_some}
 use Rattle.std.specs.Ordering.{nat_cmp}
@@ -60,7 +60,7 @@ pub HasPlaces-push : {A : Type 0} (old new : BTreeMap (String A) ℕ) (key : Lis
 HasPlaces-push old new key place clocks more clock has free same_name same_place all updates name =
     let none : place_from 0 clocks key ≡ None = ap (place_from 0 clocks) same_name ∙ not_some (place_from 0 clocks clock.name) (is_taken-place clock.name clocks 0 ∙ free) in
     let others : same_text key name ≡ true → place_from 0 clocks name ≡ None =
-        λ same. ap (place_from 0 clocks) (sym ((bytes_eq-Decides key name).0 same)) ∙ none in
+    λ same. ap (place_from 0 clocks) (sym ((bytes_eq-Decides key name).0 same)) ∙ none in
     btree_map_updates_text key old new (Some place) updates name
     ∙ (ap (λ found. cond (bytes_eq key name) (Some place) found) (has name)
     ∙ (found_or (place_from 0 clocks name) (same_text key name) place others

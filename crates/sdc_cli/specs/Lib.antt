@@ -1,3 +1,4 @@
+pub mod Exclusive
 pub mod ExitNumbers
 pub mod Places
 pub mod Refusals

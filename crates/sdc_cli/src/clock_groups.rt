@@ -29,7 +29,11 @@ impl Model for TwoGroups {
 
 /// The places of the clocks of a group: a clock's name, a braced list of names, or a query of such a list;
 /// `None` where it is none of these or a name is no clock's. The one error is want of memory.
-pub fn group_of(alloc: Global, clocks: &NamedClocks, word: &Word) -> Result<Option<List<u32>>, NoMemory>
+pub fn group_of(
+    alloc: Global,
+    clocks: &NamedClocks,
+    word: &Word,
+) -> Result<Option<List<u32>>, NoMemory>
     ensures { IfOk result (λ group. group ≡ group_of clocks.now word.now.parts) }
 {
     let Some(names) = names_text(word) else {
@@ -39,7 +43,11 @@ pub fn group_of(alloc: Global, clocks: &NamedClocks, word: &Word) -> Result<Opti
 }
 
 /// The places of the clocks of a list of names, where each is a clock's. The one error is want of memory.
-fn places_of(alloc: Global, clocks: &NamedClocks, names: &str) -> Result<Option<List<u32>>, NoMemory>
+fn places_of(
+    alloc: Global,
+    clocks: &NamedClocks,
+    names: &str,
+) -> Result<Option<List<u32>>, NoMemory>
     ensures { IfOk result (λ places. places ≡ places_of clocks.now (items names.now)) }
 {
     let mut places = List::new(alloc);

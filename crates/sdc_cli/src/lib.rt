@@ -9,6 +9,7 @@
 mod clock_groups;
 mod command_line;
 mod edges_report;
+mod exclusive_pairs;
 mod exit_numbers;
 mod fault_count;
 mod file_inputs;
@@ -16,6 +17,7 @@ mod file_outputs;
 mod items;
 mod mode_file;
 mod mode_files;
+mod mode_so_far;
 mod named_clocks;
 mod tool;
 mod waveforms;

@@ -1,26 +1,18 @@
-//! What a file of plain clocks says (SDC 2.1, `create_clock`).
+//! What a file of clocks and clock groups says (SDC 2.1).
 
-ghost use Rattle.std.specs.Prelude.{◌≡◌, ◌++◌, ℕ, ℤ, pos, None, Some, Ok, IfOk, IfSome, ◌≤◌, ◌<◌, ◌^◌, length};
-ghost use Rattle.std.specs.List.{list_all};
-ghost use Rattle.std.specs.Option.{option_and_then, option_copied};
+ghost use Rattle.std.specs.Prelude.{◌≡◌, Ok, IfOk};
+ghost use Rattle.std.specs.Option.{option_copied, option_map};
 ghost use Rattle.sdc_base.specs.Gives.{Meets};
-ghost use Rattle.sdc_model.specs.Bytes.{is_name_byte};
-ghost use Rattle.sdc_model.specs.EdgesText.{HasTimes, HaveTimes};
-ghost use Rattle.sdc_model.specs.ClockFile.{SaysModeAt, GivesKind, mode_of, clocks_of, clock_of, named_clock, virtual_clock, plain_wave, is_name, is_taken, period_of, is_text, only_text, clock_mode, no_value};
+ghost use Rattle.sdc_model.specs.ClockFile.{SaysModeAt, GivesKind, mode_of, does, does_named, create_clock, plain_clock, waved_clock, set_clock_groups, group_words, keep_for};
+ghost use Rattle.sdc_model.specs.EdgesText.{HaveTimes};
+ghost use Rattle.sdc_model.specs.Words.{is_text, only_text};
 
-use sdc_base::{At, Duplicate, Fixed, List, NoMemory, Stop, Text};
-use sdc_model::{Clock, Command, Early, Form, Kind, Latency, Mode, Part, SdcKind, Wave, Word};
+use crate::mode_so_far::ModeSoFar;
+use crate::waveforms::wave_given;
+use sdc_base::{At, NoMemory, Stop, Text};
+use sdc_model::{Command, Kind, Mode, Part, SdcKind, Word};
 use std::alloc::Global;
 use tcl_words::split;
-
-/// The most commands of a file.
-const MOST_COMMANDS: usize = 1024;
-
-/// Femtoseconds in a nanosecond, the unit of a clock file.
-const NANOSECOND: i64 = 1_000_000;
-
-/// The longest period in femtoseconds.
-const LONGEST_PERIOD: i64 = 1_000_000_000_000;
 
 /// The mode that the bytes of a file say, or its first fault.
 pub fn read_mode(alloc: Global, bytes: &[u8]) -> Result<Mode, Stop<At<Kind>>>
@@ -52,57 +44,167 @@ fn read_commands(alloc: Global, commands: &[Command]) -> Result<Mode, Stop<At<Ki
     ensures gives { GivesKind result (mode_of (Ok commands.now)) }
     ensures timed { IfOk result (λ mode. HaveTimes mode.clocks) }
 {
-    if commands.len() > MOST_COMMANDS {
-        return Err(Stop::Refused(out_of_profile(1)));
-    }
-    let mut clocks = List::new(alloc);
+    let mut so_far = ModeSoFar::new(alloc);
     for command in commands {
-        let Some(clock) = read_clock(alloc, clocks.as_slice(), command)? else {
+        let Some(next) = after_command(alloc, so_far, command)? else {
             return Err(Stop::Refused(out_of_profile(command.line)));
         };
-        clocks.push(clock)?;
+        so_far = next;
     }
-    Ok(mode_of_clocks(alloc, clocks))
+    let mode = so_far.into_mode(alloc)?;
+    Ok(mode)
 }
 
-/// A mode of clocks alone.
-fn mode_of_clocks(alloc: Global, clocks: List<Clock>) -> Mode
-    ensures { result ≡ clock_mode clocks }
+/// What was made so far and what a command makes, where it is one of those that are read here. The one error
+/// is want of memory.
+fn after_command(
+    alloc: Global,
+    so_far: ModeSoFar,
+    command: &Command,
+) -> Result<Option<ModeSoFar>, NoMemory>
+    ensures { IfOk result (λ next. next ≡ does so_far command.now.line command.now.words) }
 {
-    Mode {
-        clocks,
-        exclusive: List::new(alloc),
-        cases: List::new(alloc),
-        disabled: List::new(alloc),
-        delays: List::new(alloc),
-        exceptions: List::new(alloc),
-        kept: List::new(alloc),
-        notes: List::new(alloc),
+    match command.words.as_slice() {
+        [name, arguments @ ..] => after_named(alloc, so_far, command.line, name, arguments),
+        [] => Ok(None),
     }
 }
 
-/// The clock that a command makes behind the clocks before it, where it is one of the form that is read.
-fn read_clock(alloc: Global, clocks: &[Clock], command: &Command) -> Result<Option<Clock>, NoMemory>
-    ensures clock { IfOk result
-        (λ clock. clock ≡ clock_of clocks.now command.now.line command.now.words) }
-    ensures timed { IfOk result (λ clock. IfSome clock HasTimes) }
+/// What was made so far and what a command of this name and these arguments makes, where it is one of those
+/// that are read here. The one error is want of memory.
+fn after_named(
+    alloc: Global,
+    so_far: ModeSoFar,
+    line: u32,
+    name: &Word,
+    arguments: &[Word],
+) -> Result<Option<ModeSoFar>, NoMemory>
+    ensures { IfOk result
+        (λ next. next ≡ does_named so_far line name.now.parts arguments.now) }
 {
-    let [name, name_option, name_word, period_option, period_word] = command.words.as_slice() else {
+    if is_text(name, "create_clock") {
+        create_clock(alloc, so_far, line, arguments)
+    } else if is_text(name, "set_clock_groups") {
+        set_clock_groups(alloc, so_far, arguments)
+    } else if is_text(name, "set_units") {
+        Ok(keep_for("-time", "1ns", so_far, arguments))
+    } else if is_text(name, "set") {
+        Ok(keep_for("sdc_version", "2.1", so_far, arguments))
+    } else {
+        Ok(None)
+    }
+}
+
+/// `create_clock` of these arguments. The one error is want of memory.
+fn create_clock(
+    alloc: Global,
+    so_far: ModeSoFar,
+    line: u32,
+    arguments: &[Word],
+) -> Result<Option<ModeSoFar>, NoMemory>
+    ensures { IfOk result (λ next. next ≡ create_clock so_far line arguments.now) }
+{
+    match arguments {
+        [name_option, name, period_option, period]
+            if is_text(name_option, "-name") && is_text(period_option, "-period") => {
+            plain_clock(alloc, so_far, line, name, period)
+        }
+        [name_option, name, period_option, period, wave_option, wave]
+            if is_text(name_option, "-name")
+                && is_text(period_option, "-period")
+                && is_text(wave_option, "-waveform") => {
+            waved_clock(alloc, so_far, line, name, period, wave)
+        }
+        _ => Ok(None),
+    }
+}
+
+/// The clock of a name and a period alone. The one error is want of memory.
+fn plain_clock(
+    alloc: Global,
+    so_far: ModeSoFar,
+    line: u32,
+    name: &Word,
+    period: &Word,
+) -> Result<Option<ModeSoFar>, NoMemory>
+    ensures { IfOk result (λ next. next ≡ plain_clock so_far line name.now.parts period.now.parts) }
+{
+    let Some(name) = only_text(name) else {
         return Ok(None);
     };
-    if !is_text(name, "create_clock")
-        || !is_text(name_option, "-name")
-        || !is_text(period_option, "-period")
+    let Some(period) = only_text(period) else {
+        return Ok(None);
+    };
+    so_far.with_clock(alloc, line, name, wave_given(period.as_str(), None))
+}
+
+/// The clock of a name, a period and a waveform. The one error is want of memory.
+fn waved_clock(
+    alloc: Global,
+    so_far: ModeSoFar,
+    line: u32,
+    name: &Word,
+    period: &Word,
+    waveform: &Word,
+) -> Result<Option<ModeSoFar>, NoMemory>
+    ensures { IfOk result
+        (λ next. next ≡ waved_clock so_far line name.now.parts period.now.parts waveform.now.parts) }
+{
+    let Some(name) = only_text(name) else {
+        return Ok(None);
+    };
+    let Some(period) = only_text(period) else {
+        return Ok(None);
+    };
+    let Some(waveform) = only_text(waveform) else {
+        return Ok(None);
+    };
+    let wave = wave_given(period.as_str(), Some(waveform.as_str()));
+    so_far.with_clock(alloc, line, name, wave)
+}
+
+/// `set_clock_groups` of these arguments. The one error is want of memory.
+fn set_clock_groups(
+    alloc: Global,
+    so_far: ModeSoFar,
+    arguments: &[Word],
+) -> Result<Option<ModeSoFar>, NoMemory>
+    ensures { IfOk result (λ next. next ≡ set_clock_groups so_far arguments.now) }
+{
+    let Some((first, second)) = group_words(arguments) else {
+        return Ok(None);
+    };
+    so_far.with_groups(alloc, first, second)
+}
+
+/// The words of the two groups of these arguments.
+fn group_words(arguments: &[Word]) -> Option<(&Word, &Word)>
+    ensures { option_map (λ words. (words.0.now, words.1.now)) result ≡ group_words arguments.now }
+{
+    let [kind, first_option, first, second_option, second] = arguments else {
+        return None;
+    };
+    if !is_text(kind, "-asynchronous")
+        || !is_text(first_option, "-group")
+        || !is_text(second_option, "-group")
     {
-        return Ok(None);
+        return None;
     }
-    let Some(name) = only_text(name_word) else {
-        return Ok(None);
+    Some((first, second))
+}
+
+/// What was made so far, where the arguments of a command that changes nothing are these.
+fn keep_for(first: &str, second: &str, so_far: ModeSoFar, arguments: &[Word]) -> Option<ModeSoFar>
+    ensures { result ≡ keep_for first.now second.now so_far arguments.now }
+{
+    let [one, two] = arguments else {
+        return None;
     };
-    let Some(period) = only_text(period_word) else {
-        return Ok(None);
-    };
-    named_clock(alloc, clocks, command.line, name, period)
+    if is_text(one, first) && is_text(two, second) {
+        Some(so_far)
+    } else {
+        None
+    }
 }
 
 /// The text of a word that is one text.
@@ -115,6 +217,7 @@ fn only_text(word: &Word) -> Option<&Text>
     }
 }
 
+#[tactic(auto, unfolding(sdc_model::specs::Words::is_text))]
 /// Whether a word is one text, and this one.
 fn is_text(word: &Word, expected: &str) -> bool
     ensures { result ≡ is_text word.now.parts expected.now }
@@ -122,105 +225,5 @@ fn is_text(word: &Word, expected: &str) -> bool
     match word.parts.as_slice() {
         [Part::Text(text)] => text.as_str() == expected,
         _ => false,
-    }
-}
-
-/// The clock of a name and a period's text, where the name is one and new, and the text a period.
-fn named_clock(
-    alloc: Global,
-    clocks: &[Clock],
-    line: u32,
-    name: &Text,
-    period: &Text,
-) -> Result<Option<Clock>, NoMemory>
-    ensures clock { IfOk result (λ clock. clock ≡ named_clock clocks.now line name.now period.now) }
-    ensures timed { IfOk result (λ clock. IfSome clock HasTimes) }
-{
-    if !is_name(name.as_bytes()) || is_taken(name, clocks) {
-        return Ok(None);
-    }
-    match period_of(period.as_str()) {
-        Some(period) => {
-            let name = name.copy(alloc)?;
-            Ok(Some(virtual_clock(alloc, line, name, plain_wave(period))))
-        }
-        None => Ok(None),
-    }
-}
-
-/// The waveform of a clock whose period alone is given, in femtoseconds.
-fn plain_wave(period: u64) -> Wave
-    requires { period < 2 ^ 63 }
-    ensures { result ≡ plain_wave period }
-{
-    Wave {
-        period: period as i64,
-        rise: 0,
-        fall: (period / 2) as i64,
-    }
-}
-
-/// A clock without sources, latency and uncertainty.
-fn virtual_clock(alloc: Global, line: u32, name: Text, wave: Wave) -> Clock
-    ensures { result ≡ virtual_clock line name wave }
-{
-    let none = Early { rise: 0, fall: 0 };
-    Clock {
-        line,
-        name,
-        sources: List::new(alloc),
-        form: Form::Primary { wave },
-        latency: Latency {
-            source_early: none,
-            source_late: none,
-            network_early: none,
-            network_late: none,
-        },
-        setup_uncertainty: 0,
-        hold_uncertainty: 0,
-        propagated: false,
-    }
-}
-
-/// Whether a text is a name: letters, digits and `_`, at least one.
-fn is_name(text: &[u8]) -> bool
-    ensures { result ≡ is_name text.now }
-{
-    !text.is_empty() && are_name_bytes(text)
-}
-
-/// Whether all bytes may stand in a name.
-fn are_name_bytes(text: &[u8]) -> bool
-    ensures { result ≡ list_all is_name_byte text.now }
-{
-    text.iter().all(|byte| is_name_byte(*byte))
-}
-
-/// Whether a byte may stand in a name.
-fn is_name_byte(byte: u8) -> bool
-    ensures { result ≡ is_name_byte byte }
-{
-    byte.is_ascii_alphanumeric() || byte == b'_'
-}
-
-/// Whether a clock has the name.
-fn is_taken(name: &Text, clocks: &[Clock]) -> bool
-    ensures { result ≡ is_taken name.now clocks.now }
-{
-    clocks
-        .iter()
-        .any(|clock| clock.name.as_str() == name.as_str())
-}
-
-/// The period that a text gives in nanoseconds, in femtoseconds: 2 to 10^12.
-fn period_of(text: &str) -> Option<u64>
-    ensures period { result ≡ period_of text.now }
-    ensures within { IfSome result (λ period. (2 ≤ period) × (period ≤ 10 ^ 12)) }
-{
-    let time = Fixed::read(text).ok()?.to_time(NANOSECOND).ok()?;
-    if (2..=LONGEST_PERIOD).contains(&time) {
-        Some(time as u64)
-    } else {
-        None
     }
 }

@@ -13,6 +13,7 @@ use Rattle.sdc_model.specs.declared.clocks.Wave.{Wave}
 use Rattle.sdc_model.specs.declared.clocks.Form.TheVariants.{Primary}
 use Rattle.sdc_model.specs.declared.clocks.Early.{Early}
 use Rattle.sdc_model.specs.declared.commands.Command.{Command}
+use Rattle.sdc_model.specs.declared.commands.Part.{Part}
 use Rattle.sdc_model.specs.declared.commands.Word.{Word}
 use Rattle.sdc_model.specs.declared.kinds.Kind.{Kind}
 use Rattle.sdc_model.specs.declared.kinds.Kind.TheVariants.{Sdc}
@@ -72,16 +73,25 @@ abbrev pub wave_given : List ℕ → Option (List ℕ) → Option Wave
 wave_given period None = option_and_then (λ time. Some (plain_wave time)) (period_of period)
 wave_given period (Some waveform) = option_and_then (λ time. waveform_of time waveform) (period_of period)
 
+-- the clock of a word that is its name and one that is its period
+abbrev pub plain_clock : SoFar → ℕ → List Part → List Part → Option SoFar
+plain_clock so_far line name period =
+    option_and_then (λ n. option_and_then (λ p. with_clock so_far line n (wave_given p None)) (only_text period)) (only_text name)
+
+-- the same with a word that is its waveform
+abbrev pub waved_clock : SoFar → ℕ → List Part → List Part → List Part → Option SoFar
+waved_clock so_far line name period waveform =
+    option_and_then (λ n. option_and_then (λ p. option_and_then (λ w. with_clock so_far line n (wave_given p (Some w)))
+    (only_text waveform)) (only_text period)) (only_text name)
+
 -- `create_clock` of these arguments
 abbrev pub create_clock : SoFar → ℕ → List Word → Option SoFar
 create_clock so_far line (name_option ∷ name ∷ period_option ∷ period ∷ []) =
     if is_text name_option.parts (codes "-name") && is_text period_option.parts (codes "-period")
-    then option_and_then (λ n. option_and_then (λ p. with_clock so_far line n (wave_given p None)) (only_text period.parts)) (only_text name.parts)
-    else None
+    then plain_clock so_far line name.parts period.parts else None
 create_clock so_far line (name_option ∷ name ∷ period_option ∷ period ∷ wave_option ∷ wave ∷ []) =
     if is_text name_option.parts (codes "-name") && is_text period_option.parts (codes "-period") && is_text wave_option.parts (codes "-waveform")
-    then option_and_then (λ n. option_and_then (λ p. option_and_then (λ w. with_clock so_far line n (wave_given p (Some w))) (only_text wave.parts)) (only_text period.parts)) (only_text name.parts)
-    else None
+    then waved_clock so_far line name.parts period.parts wave.parts else None
 create_clock so_far line _ = None
 
 -- two more groups
@@ -89,28 +99,39 @@ abbrev pub with_groups : SoFar → Option (List ℕ) → Option (List ℕ) → O
 with_groups so_far first second =
     option_and_then (λ f. option_and_then (λ s. Some (record so_far { groups = so_far.groups ++ record { first = f; second = s } ∷ [] })) second) first
 
+-- the groups of these two words
+unfoldable pub grouped : SoFar → List Part → List Part → Option SoFar
+grouped so_far first second = with_groups so_far (group_of so_far.clocks first) (group_of so_far.clocks second)
+
+-- the words of the two groups of these arguments
+abbrev pub group_words : List Word → Option (Word × Word)
+group_words (kind ∷ first_option ∷ first ∷ second_option ∷ second ∷ []) =
+    if is_text kind.parts (codes "-asynchronous") && is_text first_option.parts (codes "-group") && is_text second_option.parts (codes "-group")
+    then Some (first, second) else None
+group_words _ = None
+
 -- `set_clock_groups` of these arguments
 abbrev pub set_clock_groups : SoFar → List Word → Option SoFar
-set_clock_groups so_far (kind ∷ first_option ∷ first ∷ second_option ∷ second ∷ []) =
-    if is_text kind.parts (codes "-asynchronous") && is_text first_option.parts (codes "-group") && is_text second_option.parts (codes "-group")
-    then with_groups so_far (group_of so_far.clocks first.parts) (group_of so_far.clocks second.parts)
-    else None
-set_clock_groups so_far _ = None
+set_clock_groups so_far arguments = option_and_then (λ words. grouped so_far words.0.parts words.1.parts) (group_words arguments)
 
 -- `set` and `set_units` of these arguments, which have these texts and change nothing
 abbrev pub keep_for : List ℕ → List ℕ → SoFar → List Word → Option SoFar
 keep_for first second so_far (one ∷ two ∷ []) = if is_text one.parts first && is_text two.parts second then Some so_far else None
 keep_for first second so_far _ = None
 
+-- what a command of this name and these arguments does
+abbrev pub does_named : SoFar → ℕ → List Part → List Word → Option SoFar
+does_named so_far line name arguments =
+    if is_text name (codes "create_clock") then create_clock so_far line arguments
+    else (if is_text name (codes "set_clock_groups") then set_clock_groups so_far arguments
+    else (if is_text name (codes "set_units") then keep_for (codes "-time") (codes "1ns") so_far arguments
+    else (if is_text name (codes "set") then keep_for (codes "sdc_version") (codes "2.1") so_far arguments
+    else None)))
+
 -- what a command of these words does
 abbrev pub does : SoFar → ℕ → List Word → Option SoFar
 does so_far line [] = None
-does so_far line (command ∷ arguments) =
-    if is_text command.parts (codes "create_clock") then create_clock so_far line arguments
-    else (if is_text command.parts (codes "set_clock_groups") then set_clock_groups so_far arguments
-    else (if is_text command.parts (codes "set_units") then keep_for (codes "-time") (codes "1ns") so_far arguments
-    else (if is_text command.parts (codes "set") then keep_for (codes "sdc_version") (codes "2.1") so_far arguments
-    else None)))
+does so_far line (command ∷ arguments) = does_named so_far line command.parts arguments
 
 -- what these commands do
 abbrev pub do_all : SoFar → List Command → Option SoFar

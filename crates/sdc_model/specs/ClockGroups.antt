@@ -1,6 +1,6 @@
 -- Groups of clocks, and the pairs of clocks that they make exclusive (SDC 2.1, set_clock_groups).
 -- Clocks are known by their places. All pairs of different clocks in the two groups of a command are exclusive.
-use Rattle.std.specs.Prelude.{◌==◌, ◌&&◌, ◌||◌, ◌+◌, ◌-◌, ◌++◌, ℕ, zero, suc, Bool, false, List, [], ◌∷◌, codes, Option, Some, None, nat_eq, if◌then◌else◌}
+use Rattle.std.specs.Prelude.{◌==◌, ◌&&◌, ◌||◌, ◌+◌, ◌++◌, ℕ, zero, suc, Bool, false, List, [], ◌∷◌, codes, Option, Some, None, nat_eq, if◌then◌else◌}
 use Rattle.std.specs.List.{list_any, starts_with}
 use Rattle.std.specs.Prelude.{drop}
 use Rattle.std.specs.Option.{option_and_then}

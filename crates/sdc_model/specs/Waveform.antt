@@ -1,6 +1,6 @@
 -- The waveform of a clock from the numbers of its command, in whole femtoseconds (SDC 2.1, create_clock).
 -- Without a waveform a clock rises at 0 and falls at half its period, rounded down. The bounds are this project's own.
-use Rattle.std.specs.Prelude.{◌≡◌, ◌+◌, ◌-◌, ◌/◌, ◌%◌, ◌^◌, ◌&&◌, ℕ, ℤ, pos, negsuc, List, [], ◌∷◌, Option, Some, None, Result, Ok, Err, nat_lt, nat_le, if◌then◌else◌}
+use Rattle.std.specs.Prelude.{◌+◌, ◌-◌, ◌/◌, ◌%◌, ◌^◌, ◌&&◌, ℕ, ℤ, pos, negsuc, List, [], ◌∷◌, Option, Some, None, Result, Ok, Err, nat_lt, nat_le, if◌then◌else◌}
 use Rattle.std.specs.Option.{option_and_then}
 use Rattle.sdc_base.specs.Number.{Number, read_number}
 use Rattle.sdc_base.specs.Time.{time_of}

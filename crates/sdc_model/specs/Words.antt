@@ -14,6 +14,6 @@ only_text (part.Text text ∷ []) = Some text
 only_text _ = None
 
 -- the word is one text, and this one
-abbrev pub is_text : List Part → List ℕ → Bool
+unfoldable pub is_text : List Part → List ℕ → Bool
 is_text (part.Text text ∷ []) expected = same_text text expected
 is_text _ expected = false

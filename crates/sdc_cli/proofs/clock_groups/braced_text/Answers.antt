@@ -1,9 +1,9 @@
-use Rattle.std.proofs.Common.{◌≡◌, ◌<◌, length, ℕ, List, [], ◌∷◌, ◌++◌, None, Some, sym, ◌∙◌, ap, arith}
+use Rattle.std.proofs.Common.{◌≡◌, ◌<◌, length, [], None, Some, sym, ◌∙◌, ap, arith}
 use Rattle.std.proofs.lemmas.Grind.{common_steps}
 use Rattle.std.proofs.lemmas.Str.Pattern.{strip_prefix_char, split_parts}
 use Rattle.std.specs.Option.{option_copied}
 use Rattle.sdc_model.specs.ClockGroups.{behind_blanks, braced_text}
-use Rattle.sdc_cli.proofs.GroupSteps.{Lacks, closed, braced_text-at, braced_text-open, braced_text-none, closed-none, closed-some}
+use Rattle.sdc_cli.proofs.GroupSteps.{braced_text-at, braced_text-open, braced_text-none, closed-none, closed-some}
 use Rattle.sdc_cli.proofs.clock_groups.braced_text.Goals as goal
 
 pub returns-in_err-opened : goal.returns-in_err-opened

@@ -1,11 +1,7 @@
 use Rattle.std.proofs.Common.{◌≡◌, [], drop}
-use Rattle.sdc_model.specs.ClockFile.{clocks_of}
-use Rattle.sdc_model.specs.EdgesText.{HaveTimes}
+use Rattle.sdc_model.specs.ClockFile.{do_all}
 use Rattle.sdc_cli.proofs.mode_file.read_commands.Given as goal
 
--- the clocks so far and the commands that are left give what all commands give
+-- the commands that are left do to what was made so far what all commands do
 abbrev pub invariant-loop-command : goal.invariant-loop-command
-invariant-loop-command l = record {
-  same : clocks_of l.clocks (drop l.command-index l.commands) ≡ clocks_of [] l.commands;
-  timed : HaveTimes l.clocks;
-}
+invariant-loop-command l = do_all l.so_far (drop l.command-index l.commands) ≡ do_all (record { clocks = []; groups = [] }) l.commands
