@@ -227,3 +227,6 @@ fn is_text(word: &Word, expected: &str) -> bool
         _ => false,
     }
 }
+
+#[cfg(test)]
+mod tests;
