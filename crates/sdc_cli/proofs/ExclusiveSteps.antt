@@ -9,7 +9,7 @@ use Rattle.std.specs.Result.{IfOk}
 use Rattle.std.specs.declared.cmp.Ordering.TheVariants.{Less}
 use Rattle.sdc_model.specs.declared.clocks.Pair.{Pair}
 use Rattle.sdc_model.specs.ClockGroups.{Groups, is_among, is_parted, pairs_from, exclusive_pairs}
-use Rattle.sdc_cli.specs.Exclusive.{GroupsBelow, HasMore, pair_cmp, parts, parts_some, parts_any, parts_in}
+use Rattle.sdc_cli.specs.Exclusive.{GroupsBelow, HasMore, HasSame, has_pair, pair_cmp, parts, parts_some, parts_any, parts_in}
 use Rattle.sdc_cli.proofs.GroupPlaces.{either}
 use Rattle.sdc_cli.proofs.RisingPairs.{pair_is_parted, pair_is_same, before_from_less, AllAfter, Rising, Among, same_lists}
 use Rattle.sdc_cli.proofs.PairLists.{from_sound, from_complete, rising_from}
@@ -138,3 +138,14 @@ pub exclusive_answer : {E : Type 0} (answer : Result (List Pair) E) (keys : List
 exclusive_answer (Ok list) keys groups same sorted has =
     λ count below. exclusive_is list groups count sorted (λ pair. ap (list_any (is_at (pair_cmp pair))) same ∙ has pair) below
 exclusive_answer (Err e) keys groups same sorted has = tt
+
+-- the pairs of groups are those of the same groups with each place once
+pub HasMore-distinct : (old new : BTreeSet Pair) (is js is_once js_once : List ℕ) → HasSame is is_once → HasSame js js_once → HasMore old new (parts_any is_once js_once) → HasMore old new (parts_any is js)
+HasMore-distinct old new is js is_once js_once same_is same_js more p =
+    let once = parts_any-is is_once js_once p in
+    let all = parts_any-is is js p in
+    let firsts = ap (λ s. nat_lt p.first p.second && ((s && is_among p.second js_once) || (is_among p.second is_once && is_among p.first js_once))) (same_is p.first) in
+    let seconds = ap (λ s. nat_lt p.first p.second && ((is_among p.first is && s) || (is_among p.second is_once && is_among p.first js_once))) (same_js p.second) in
+    let thirds = ap (λ s. nat_lt p.first p.second && ((is_among p.first is && is_among p.second js) || (s && is_among p.first js_once))) (same_is p.second) in
+    let fourths = ap (λ s. nat_lt p.first p.second && ((is_among p.first is && is_among p.second js) || (is_among p.second is && s))) (same_js p.first) in
+    more p ∙ ap (λ t. has_pair old p || t) (once ∙ (firsts ∙ (seconds ∙ (thirds ∙ (fourths ∙ sym all)))))

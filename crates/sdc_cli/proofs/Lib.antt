@@ -1,3 +1,4 @@
+pub mod DistinctPlaces
 pub mod EdgeLines
 pub mod ExclusiveSteps
 pub mod GroupPlaces

@@ -17,6 +17,10 @@ abbrev pub GroupsBelow : ℕ → List Groups → Type 0
 GroupsBelow count [] = Unit {0}
 GroupsBelow count (groups ∷ others) = AreBelow count groups.first × AreBelow count groups.second × GroupsBelow count others
 
+-- two lists have the same places
+abbrev pub HasSame : List ℕ → List ℕ → Type 0
+HasSame places others = (place : ℕ) → is_among place others ≡ is_among place places
+
 -- pairs in order: by their first places, and then by their second ones
 abbrev pub pair_cmp : Pair → Pair → Ordering
 pair_cmp p q = ordering_then (nat_cmp p.first q.first) (nat_cmp p.second q.second)

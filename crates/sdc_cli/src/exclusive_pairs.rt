@@ -3,7 +3,7 @@
 ghost use Rattle.std.specs.Prelude.{◌≡◌, ℕ, OnOk, IfOk};
 ghost use Rattle.std.specs.List.Sorted.{IsStrictlySortedBy};
 ghost use Rattle.sdc_model.specs.ClockGroups.{exclusive_pairs};
-ghost use Rattle.sdc_cli.specs.Exclusive.{GroupsBelow, HasMore, pair_cmp, parts, parts_some, parts_any};
+ghost use Rattle.sdc_cli.specs.Exclusive.{GroupsBelow, HasMore, HasSame, pair_cmp, parts, parts_some, parts_any};
 
 use crate::clock_groups::TwoGroups;
 use sdc_base::{List, NoMemory};
@@ -19,7 +19,7 @@ pub fn exclusive_pairs(alloc: Global, groups: &[TwoGroups]) -> Result<List<Pair>
 {
     let mut pairs = BTreeSet::new(alloc);
     for two in groups {
-        part_all(&mut pairs, two.first.as_slice(), two.second.as_slice())?;
+        part_groups(alloc, &mut pairs, two)?;
     }
     list_of(alloc, pairs)
 }
@@ -33,7 +33,27 @@ fn list_of(alloc: Global, pairs: BTreeSet<Pair>) -> Result<List<Pair>, NoMemory>
     Ok(List::from(pairs))
 }
 
-/// Adds the pairs of different clocks of two groups.
+/// Adds the pairs of different clocks of the two groups of a command. The one error is want of memory.
+fn part_groups(alloc: Global, pairs: &mut BTreeSet<Pair>, two: &TwoGroups) -> Result<(), NoMemory>
+    ensures { OnOk result (HasMore pairs.old pairs.new (parts_any two.now.first two.now.second)) }
+{
+    let first = distinct(alloc, two.first.as_slice())?;
+    let second = distinct(alloc, two.second.as_slice())?;
+    part_all(pairs, first.as_slice(), second.as_slice())?;
+    Ok(())
+}
+
+/// The places of a group, each once. The one error is want of memory.
+fn distinct(alloc: Global, places: &[u32]) -> Result<Vec<u32>, NoMemory>
+    ensures { IfOk result (λ once. HasSame places.now once.items) }
+{
+    let mut once = Vec::from_slice(alloc, places)?;
+    once.sort_unstable();
+    once.dedup();
+    Ok(once)
+}
+
+/// Adds the pairs of different clocks of two groups. The one error is want of memory.
 fn part_all(pairs: &mut BTreeSet<Pair>, first: &[u32], second: &[u32]) -> Result<(), NoMemory>
     ensures { OnOk result (HasMore pairs.old pairs.new (parts_any first.now second.now)) }
 {
@@ -43,7 +63,7 @@ fn part_all(pairs: &mut BTreeSet<Pair>, first: &[u32], second: &[u32]) -> Result
     Ok(())
 }
 
-/// Adds the pairs of a clock with the other clocks of a group.
+/// Adds the pairs of a clock with the other clocks of a group. The one error is want of memory.
 fn part_some(pairs: &mut BTreeSet<Pair>, place: u32, others: &[u32]) -> Result<(), NoMemory>
     ensures { OnOk result (HasMore pairs.old pairs.new (parts_some place others.now)) }
 {
@@ -53,7 +73,7 @@ fn part_some(pairs: &mut BTreeSet<Pair>, place: u32, others: &[u32]) -> Result<(
     Ok(())
 }
 
-/// Adds the pair of two clocks, where they are different.
+/// Adds the pair of two clocks, where they are different. The one error is want of memory.
 fn part(pairs: &mut BTreeSet<Pair>, place: u32, other: u32) -> Result<(), NoMemory>
     ensures { OnOk result (HasMore pairs.old pairs.new (parts place other)) }
 {
