@@ -1,7 +1,15 @@
 pub mod Arguments
 pub mod BothWritten
 pub mod Budgets
+pub mod DistinctPlaces
 pub mod EdgeLines
+pub mod ExclusiveSteps
+pub mod GroupPlaces
+pub mod GroupSteps
+pub mod ItemSteps
 pub mod ModeSteps
+pub mod PairLists
+pub mod PlaceSteps
 pub mod ReportTrees
+pub mod RisingPairs
 pub mod SaidClocks

@@ -1,6 +1,9 @@
+pub mod Exclusive
 pub mod ExitNumbers
 pub mod MergeOutput
 pub mod MergeRows
 pub mod Outputs
+pub mod Places
 pub mod Refusals
 pub mod ReportTree
+pub mod Waves

@@ -6,19 +6,25 @@
 //! answer; it leaves the process itself, its words and its end, to the program.
 #![tactic(auto)]
 
+mod clock_groups;
 mod command_line;
 mod edges_report;
+mod exclusive_pairs;
 mod exit_numbers;
 mod fault_count;
 mod file_inputs;
 mod file_outputs;
+mod items;
 mod merge_rows;
 mod mode_file;
 mod mode_files;
+mod mode_so_far;
+mod named_clocks;
 mod outputs;
 mod report_tree;
 mod reports;
 mod tool;
+mod waveforms;
 
 pub use exit_numbers::exit_number;
 pub use file_inputs::FileInputs;

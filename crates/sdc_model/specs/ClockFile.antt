@@ -82,7 +82,7 @@ plain_clock so_far line name period =
 abbrev pub waved_clock : SoFar → ℕ → List Part → List Part → List Part → Option SoFar
 waved_clock so_far line name period waveform =
     option_and_then (λ n. option_and_then (λ p. option_and_then (λ w. with_clock so_far line n (wave_given p (Some w)))
-        (only_text waveform)) (only_text period)) (only_text name)
+    (only_text waveform)) (only_text period)) (only_text name)
 
 -- `create_clock` of these arguments
 abbrev pub create_clock : SoFar → ℕ → List Word → Option SoFar

@@ -33,14 +33,16 @@ abbrev pub behind_blanks : List ℕ → List ℕ
 behind_blanks [] = []
 behind_blanks (b ∷ bs) = if is_blank b then behind_blanks bs else b ∷ bs
 
+-- nothing, where nothing is left
+abbrev pub at_end : List ℕ → Option (List ℕ)
+at_end [] = Some []
+at_end (b ∷ bs) = None
+
 -- the text before a closing brace behind which only blanks stand
 abbrev pub before_brace : List ℕ → Option (List ℕ)
 before_brace [] = None
 before_brace (b ∷ bs) =
-    if b == 125 then blank_end (behind_blanks bs) else option_and_then (λ inner. Some (b ∷ inner)) (before_brace bs) where
-      blank_end : List ℕ → Option (List ℕ)
-      blank_end [] = Some []
-      blank_end (c ∷ cs) = None
+    if b == 125 then at_end (behind_blanks bs) else option_and_then (λ inner. Some (b ∷ inner)) (before_brace bs)
 
 -- the text in a pair of braces, behind blanks and with only blanks behind it
 abbrev pub braced_text : List ℕ → Option (List ℕ)
@@ -57,15 +59,15 @@ query_list script =
     let text = behind_blanks script in
     if starts_with nat_eq text (codes "get_clocks") then behind_query (drop 10 text) else None
 
--- the names of a group: a name or a braced list of names, or a query of a braced list
-abbrev pub names_of : List Part → Option (List (List ℕ))
-names_of (part.Text text ∷ []) = Some (items text)
-names_of (part.Script script ∷ []) = option_and_then (λ text. Some (items text)) (query_list script)
-names_of _ = None
+-- the text of the names of a group: a name or a braced list of names, or a query of a braced list
+abbrev pub names_text : List Part → Option (List ℕ)
+names_text (part.Text text ∷ []) = Some text
+names_text (part.Script script ∷ []) = query_list script
+names_text _ = None
 
 -- the places of the clocks of a group
 abbrev pub group_of : List Clock → List Part → Option (List ℕ)
-group_of clocks parts = option_and_then (places_of clocks) (names_of parts)
+group_of clocks parts = option_and_then (λ text. places_of clocks (items text)) (names_text parts)
 
 -- a place is one of these
 abbrev pub is_among : ℕ → List ℕ → Bool

@@ -1,0 +1,82 @@
+//! The clocks of a mode file so far, each found by its name.
+
+ghost use Rattle.std.specs.Prelude.{◌≡◌, ◌++◌, ◌∷◌, [], false, IfOk};
+ghost use Rattle.sdc_model.specs.ClockFile.{is_taken};
+ghost use Rattle.sdc_model.specs.ClockGroups.{place_from};
+
+use sdc_base::{List, NoMemory};
+use sdc_model::Clock;
+use std::alloc::Global;
+use std::collections::BTreeMap;
+use std::marker::Model;
+
+/// The clocks of a mode file so far, in order. Contracts see the list of the clocks.
+#[derive(Drop)]
+pub struct NamedClocks {
+    clocks: List<Clock>,
+    places: BTreeMap<String, u32>,
+}
+
+impl Model for NamedClocks {
+    ghost use Rattle.std.specs.Prelude.{List};
+    ghost use Rattle.sdc_model.specs.declared.clocks.Clock.{Clock};
+    ghost use Rattle.sdc_cli.specs.Places.{HasPlaces};
+
+    ghost Value = { List Clock };
+
+    ghost view = { λ named. named.clocks };
+
+    ghost invariant = { λ named. HasPlaces named.places named.clocks };
+}
+
+impl NamedClocks {
+    /// No clocks.
+    pub fn new(alloc: Global) -> NamedClocks
+        ensures { result ≡ [] }
+    {
+        NamedClocks {
+            clocks: List::new(alloc),
+            places: BTreeMap::new(alloc),
+        }
+    }
+
+    /// The place of the clock of a name, counted from 0.
+    pub fn place(&self, name: &str) -> Option<u32>
+        ensures { result ≡ place_from 0 self.now name.now }
+    {
+        self.places.get(name).copied()
+    }
+
+    /// Whether a clock has the name.
+    pub fn is_taken(&self, name: &str) -> bool
+        ensures { result ≡ is_taken name.now self.now }
+    {
+        self.place(name).is_some()
+    }
+
+    /// These clocks and one more, whose name is new. The one error is want of memory.
+    pub fn with(self, alloc: Global, clock: Clock) -> Result<NamedClocks, NoMemory>
+        requires { is_taken clock.name self ≡ false }
+        ensures { IfOk result (λ more. more ≡ self ++ clock ∷ []) }
+    {
+        let NamedClocks {
+            mut clocks,
+            mut places,
+        } = self;
+        let Ok(place) = u32::try_from(clocks.len()) else {
+            return Err(NoMemory);
+        };
+        let name = String::from_str(alloc, clock.name.as_str())?;
+        places.insert(name, place)?;
+        clocks.push(clock)?;
+        Ok(NamedClocks { clocks, places })
+    }
+
+    /// The clocks as a list.
+    pub fn into_list(self) -> List<Clock>
+        ensures { result ≡ self }
+    {
+        let NamedClocks { clocks, .. } = self;
+        clocks
+    }
+}

@@ -1,0 +1,131 @@
+//! The waveform of a clock from the numbers of its command (SDC 2.1, `create_clock`), all times in whole
+//! femtoseconds.
+
+ghost use Rattle.std.specs.Prelude.{◌≡◌, ◌≤◌, ◌<◌, ◌+◌, ◌^◌, IfSome};
+ghost use Rattle.std.specs.Option.{option_copied};
+ghost use Rattle.sdc_model.specs.ClockFile.{wave_given};
+ghost use Rattle.sdc_model.specs.Waveform.{plain_wave, period_of, time_from, time_within, wave_within, waveform_of, moved_down};
+ghost use Rattle.sdc_cli.specs.Waves.{IsPeriod, HasEdges};
+
+use crate::items::first_item;
+use sdc_base::Fixed;
+use sdc_model::Wave;
+
+/// Femtoseconds in a nanosecond, the unit of a clock file.
+const NANOSECOND: i64 = 1_000_000;
+
+/// The shortest period.
+const SHORTEST_PERIOD: u64 = 2;
+
+/// The longest time of a clock: of its period, and of an edge as it is given.
+const LONGEST_TIME: u64 = 1_000_000_000_000;
+
+/// The waveform of a period's text and of a waveform's text, where there is one; without a waveform a clock
+/// rises at 0 and falls at half its period, rounded down.
+pub fn wave_given(period: &str, waveform: Option<&str>) -> Option<Wave>
+    ensures wave { result ≡ wave_given period.now (option_copied waveform.entry) }
+    ensures edges { IfSome result HasEdges }
+{
+    let period = period_of(period)?;
+    match waveform {
+        None => Some(plain_wave(period)),
+        Some(waveform) => waveform_of(period, waveform),
+    }
+}
+
+/// The period that a text gives in nanoseconds.
+fn period_of(text: &str) -> Option<u64>
+    ensures period { result ≡ period_of text.now }
+    ensures within { IfSome result IsPeriod }
+{
+    time_from(SHORTEST_PERIOD, text)
+}
+
+/// The time that a text gives in nanoseconds, from a least one to the longest.
+fn time_from(least: u64, text: &str) -> Option<u64>
+    ensures time { result ≡ time_from least text.now }
+    ensures least { IfSome result (λ time. least ≤ time) }
+    ensures most { IfSome result (λ time. time ≤ 10 ^ 12) }
+{
+    let time = Fixed::read(text).ok()?.to_time(NANOSECOND).ok()?;
+    time_within(least, time)
+}
+
+/// A time, where it is from a least one to the longest.
+fn time_within(least: u64, time: i64) -> Option<u64>
+    ensures time { result ≡ time_within least time }
+    ensures least { IfSome result (λ time. least ≤ time) }
+    ensures most { IfSome result (λ time. time ≤ 10 ^ 12) }
+{
+    if time < 0 {
+        return None;
+    }
+    let time = time as u64;
+    if least <= time && time <= LONGEST_TIME {
+        Some(time)
+    } else {
+        None
+    }
+}
+
+/// The waveform of a clock whose period alone is given.
+fn plain_wave(period: u64) -> Wave
+    requires { IsPeriod period }
+    ensures wave { result ≡ plain_wave period }
+    ensures edges { HasEdges result }
+{
+    Wave {
+        period: period as i64,
+        rise: 0,
+        fall: (period / 2) as i64,
+    }
+}
+
+/// The waveform of a list of two times in nanoseconds, of the rise and of the fall.
+fn waveform_of(period: u64, text: &str) -> Option<Wave>
+    requires { IsPeriod period }
+    ensures wave { result ≡ waveform_of period text.now }
+    ensures edges { IfSome result HasEdges }
+{
+    let (rise, others) = first_item(text)?;
+    let (fall, others) = first_item(others)?;
+    if first_item(others).is_some() {
+        return None;
+    }
+    let rise = time_from(0, rise)?;
+    let fall = time_from(0, fall)?;
+    wave_within(period, rise, fall)
+}
+
+/// The waveform of these edges, where the fall is behind the rise and before the next rise: both edges moved
+/// down by whole periods until the rise is below the period.
+fn wave_within(period: u64, rise: u64, fall: u64) -> Option<Wave>
+    requires period { IsPeriod period }
+    requires rise { rise ≤ 10 ^ 12 }
+    ensures wave { result ≡ wave_within period rise fall }
+    ensures edges { IfSome result HasEdges }
+{
+    if rise < fall && fall < rise + period {
+        Some(moved_down(period, rise, fall))
+    } else {
+        None
+    }
+}
+
+/// The waveform of these edges, both moved down by whole periods until the rise is below the period.
+fn moved_down(period: u64, rise: u64, fall: u64) -> Wave
+    requires period { IsPeriod period }
+    requires rise { rise ≤ 10 ^ 12 }
+    requires behind { rise < fall }
+    requires before_next { fall < rise + period }
+    ensures wave { result ≡ moved_down period rise fall }
+    ensures edges { HasEdges result }
+{
+    let first_rise = rise % period;
+    let periods = rise - first_rise;
+    Wave {
+        period: period as i64,
+        rise: first_rise as i64,
+        fall: (fall - periods) as i64,
+    }
+}
