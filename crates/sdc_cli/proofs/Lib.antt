@@ -7,6 +7,7 @@ pub mod ExclusiveSteps
 pub mod GroupPlaces
 pub mod GroupSteps
 pub mod ItemSteps
+pub mod MergedClocks
 pub mod ModeSteps
 pub mod PairLists
 pub mod PlaceSteps
