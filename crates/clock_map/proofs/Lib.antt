@@ -8,3 +8,4 @@ pub mod NameLists
 pub mod NameSets
 pub mod MergedLists
 pub mod PlainMaps
+pub mod PairRows
