@@ -9,3 +9,6 @@ pub mod NameSets
 pub mod MergedLists
 pub mod PlainMaps
 pub mod PairRows
+pub mod PairSets
+pub mod PlaceLists
+pub mod TimingLists

@@ -1,6 +1,6 @@
 //! The merged clocks that are exclusive.
 
-ghost use Rattle.std.specs.Prelude.{◌≡◌, ◌<◌, ◌++◌, ℕ, vec_len, IfOk, OnOk};
+ghost use Rattle.std.specs.Prelude.{◌≡◌, ◌<◌, ◌++◌, ℕ, length, vec_len, IfOk, OnOk};
 ghost use Rattle.std.specs.List.{list_any};
 ghost use Rattle.sdc_model.specs.Exclusive.{IsApart, AreApart, AreExclusivePairs};
 ghost use Rattle.clock_map.specs.Timings.{ArePlaces, HoldsPairs, AreTimings, lets_time, KnowClock, row};
@@ -20,7 +20,8 @@ pub fn exclusive_pairs(
     maps: &List<List<u32>>,
     count: u32,
 ) -> Result<List<Pair>, NoMemory>
-    requires { AreApart maps.now }
+    requires beside { length maps.now ≡ length modes.now }
+    requires apart { AreApart maps.now }
     ensures { IfOk result (AreExclusivePairs modes.now maps.now count) }
 {
     let timings = timings_of(alloc, modes, maps, count as usize)?;
@@ -64,12 +65,14 @@ fn timings_of(
     maps: &List<List<u32>>,
     count: usize,
 ) -> Result<Vec<Timing>, NoMemory>
-    requires { AreApart maps.now }
+    requires beside { length maps.now ≡ length modes.now }
+    requires apart { AreApart maps.now }
     ensures { IfOk result (λ timings. AreTimings count modes.now maps.now timings.items) }
 {
+    let maps = maps.as_slice();
     let mut timings = Vec::new(alloc);
-    for (view, numbers) in modes.as_slice().iter().zip(maps.as_slice()) {
-        let places = places_of(alloc, numbers, count)?;
+    for (at, view) in modes.as_slice().iter().enumerate() {
+        let places = places_of(alloc, &maps[at], count)?;
         let exclusive = pairs_in(alloc, &view.mode.exclusive)?;
         timings.push(Timing { places, exclusive })?;
     }
