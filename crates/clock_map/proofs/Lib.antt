@@ -12,3 +12,4 @@ pub mod PairRows
 pub mod PairSets
 pub mod PlaceLists
 pub mod TimingLists
+pub mod ExclusiveLists
