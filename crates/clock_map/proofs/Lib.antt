@@ -13,3 +13,4 @@ pub mod PairSets
 pub mod PlaceLists
 pub mod TimingLists
 pub mod ExclusiveLists
+pub mod PairOrder
