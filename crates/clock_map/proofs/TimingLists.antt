@@ -5,7 +5,7 @@ use Rattle.std.proofs.lemmas.List.{take_more, take_all, length-take-le}
 use Rattle.sdc_model.specs.declared.views.View.{View}
 use Rattle.sdc_model.specs.Exclusive.{IsApart, AreApart}
 use Rattle.clock_map.specs.declared.exclusive.Timing.{Timing}
-use Rattle.clock_map.specs.Timings.{ArePlaces, HoldsPairs, IsTiming, AreTimings}
+use Rattle.clock_map.specs.Timings.{ArePlaces, HoldsPairs, IsTiming, AreTimings, KnowClock}
 
 pub apart_at : (maps : List (List ℕ)) (i : ℕ) (numbers : List ℕ) → AreApart maps → i < length maps → numbers ≡ get_or maps i numbers → IsApart numbers
 apart_at maps i numbers apart within is = subst IsApart (sym is) (at_place maps i numbers apart within) where
@@ -42,3 +42,15 @@ timings_done count views maps i timings beside done known =
     let all : take i views ≡ views = take_all i views done in
     let all' : take i maps ≡ maps = take_all i maps (omega arith) in
     subst (λ (ms : List (List ℕ)). AreTimings count views ms timings) all' (subst (λ (vs : List View). AreTimings count vs (take i maps) timings) all known)
+
+-- each merged clock is known of each mode
+pub clocks_known : (count : ℕ) (views : List View) (maps : List (List ℕ)) (timings : List Timing) (k : ℕ) → AreTimings count views maps timings → k < count → KnowClock timings k
+clocks_known count [] maps timings k known below p d within =
+    let none : length timings ≡ 0 = ap length known in absurd (omega arith)
+clocks_known count (view ∷ views) [] timings k known below p d within =
+    let none : length timings ≡ 0 = ap length known in absurd (omega arith)
+clocks_known count (view ∷ views) (numbers ∷ maps) [] k known below p d within = absurd known
+clocks_known count (view ∷ views) (numbers ∷ maps) (timing ∷ timings) k known below zero d within =
+    let long = known.0.places.0 in omega (arith, timing.places.ok.0)
+clocks_known count (view ∷ views) (numbers ∷ maps) (timing ∷ timings) k known below (suc p) d within =
+    clocks_known count views maps timings k known.1 below p d (omega arith)
