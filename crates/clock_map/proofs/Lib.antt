@@ -14,3 +14,4 @@ pub mod PlaceLists
 pub mod TimingLists
 pub mod ExclusiveLists
 pub mod PairOrder
+pub mod LawLists

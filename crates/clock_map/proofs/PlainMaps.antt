@@ -23,7 +23,7 @@ use Rattle.clock_map.proofs.StandingLists.{form_stays}
 
 -- ---- primary clocks are the same under every map
 
-from_plain : (numbers : List ℕ) (arrivals : Arrivals) (place : ℕ) (clocks : List Clock) (waves : List Wave) → ArePrimary clocks
+pub from_plain : (numbers : List ℕ) (arrivals : Arrivals) (place : ℕ) (clocks : List Clock) (waves : List Wave) → ArePrimary clocks
     → standings_from numbers arrivals place clocks waves ≡ standings_from [] arrivals place clocks waves
 from_plain numbers arrivals place [] waves primary = refl
 from_plain numbers arrivals place (clock ∷ clocks) [] primary = refl
@@ -51,7 +51,7 @@ identities_plain (view ∷ views) (numbers ∷ maps) primary =
 
 -- ---- how many they are
 
-length-from : (numbers : List ℕ) (arrivals : Arrivals) (place : ℕ) (clocks : List Clock) (waves : List Wave) → length waves ≡ length clocks
+pub length-from : (numbers : List ℕ) (arrivals : Arrivals) (place : ℕ) (clocks : List Clock) (waves : List Wave) → length waves ≡ length clocks
     → length (standings_from numbers arrivals place clocks waves) ≡ length clocks
 length-from numbers arrivals place [] waves same = refl
 length-from numbers arrivals place (clock ∷ clocks) [] same = absurd (omega arith)
