@@ -15,3 +15,4 @@ pub mod TimingLists
 pub mod ExclusiveLists
 pub mod PairOrder
 pub mod LawLists
+pub mod SharedClocks
