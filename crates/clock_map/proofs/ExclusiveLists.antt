@@ -49,6 +49,7 @@ pub mode_lets : (count : ℕ) (view : View) (numbers : List ℕ) (timing : Timin
 mode_lets count view numbers timing a b known a_within b_within = (says, shows) where
   keys : List (ℕ × ℕ)
   keys = timing.exclusive.keys
+
   says : lets_time a b timing ≡ true → LetsBeTimed view.mode.exclusive numbers a b
   says e =
       let h = lets_at_says timing.exclusive.keys (get_or timing.places.items a None) (get_or timing.places.items b None) e in
@@ -58,13 +59,15 @@ mode_lets count view numbers timing a b known a_within b_within = (says, shows) 
         is_first = (known.places.1 a h.0 a_within).0 h.2;
         is_second = (known.places.1 b h.1 b_within).0 h.3;
         not_exclusive = λ there.
-          let there' : Contains view.mode.exclusive (pair (min h.0 h.1) (max h.0 h.1)) = subst (Contains view.mode.exclusive) (ordered h.0 h.1) there in
-          false≢true (sym h.4 ∙ (known.pairs (min h.0 h.1) (max h.0 h.1)).1 there');
+            let there' : Contains view.mode.exclusive (pair (min h.0 h.1) (max h.0 h.1)) = subst (Contains view.mode.exclusive) (ordered h.0 h.1) there in
+            false≢true (sym h.4 ∙ (known.pairs (min h.0 h.1) (max h.0 h.1)).1 there');
       }
+
   by_test : (p q : ℕ) (t : Bool) → list_any (same_pair (min p q, max p q)) timing.exclusive.keys ≡ t → (Contains view.mode.exclusive (pair_of p q) → ⊥)
       → not (list_any (same_pair (min p q, max p q)) timing.exclusive.keys) ≡ true
   by_test p q true e none = absurd (none (subst (Contains view.mode.exclusive) (sym (ordered p q)) ((known.pairs (min p q) (max p q)).0 e)))
   by_test p q false e none = ap not e
+
   shows : LetsBeTimed view.mode.exclusive numbers a b → lets_time a b timing ≡ true
   shows lets =
       let first = (known.places.1 a lets.first a_within).1 lets.is_first in
@@ -96,8 +99,9 @@ some_says count (view ∷ views) [] timings a b known a_within b_within e =
 some_says count (view ∷ views) (numbers ∷ maps) [] a b known a_within b_within e = absurd known
 some_says count (view ∷ views) (numbers ∷ maps) (timing ∷ timings) a b known a_within b_within e =
     elim (or_cases (lets_time a b timing) (list_any (lets_time a b) timings) e) [
-      inl here ↦ inl ((mode_lets count view numbers timing a b known.0 a_within b_within).0 here)
-    | inr there ↦ inr (some_says count views maps timings a b known.1 a_within b_within there) ]
+      | inl here ↦ inl ((mode_lets count view numbers timing a b known.0 a_within b_within).0 here)
+      | inr there ↦ inr (some_says count views maps timings a b known.1 a_within b_within there)
+    ]
 
 pub some_shows : (count : ℕ) (views : List View) (maps : List (List ℕ)) (timings : List Timing) (a b : ℕ) → AreTimings count views maps timings → a < count → b < count
     → SomeLetsBeTimed views maps a b → list_any (lets_time a b) timings ≡ true
@@ -106,5 +110,6 @@ some_shows count (view ∷ views) [] timings a b known a_within b_within lets = 
 some_shows count (view ∷ views) (numbers ∷ maps) [] a b known a_within b_within lets = absurd known
 some_shows count (view ∷ views) (numbers ∷ maps) (timing ∷ timings) a b known a_within b_within lets =
     elim lets [
-      inl here ↦ or_left (lets_time a b timing) (list_any (lets_time a b) timings) ((mode_lets count view numbers timing a b known.0 a_within b_within).1 here)
-    | inr there ↦ or_right (lets_time a b timing) (list_any (lets_time a b) timings) (some_shows count views maps timings a b known.1 a_within b_within there) ]
+      | inl here ↦ or_left (lets_time a b timing) (list_any (lets_time a b) timings) ((mode_lets count view numbers timing a b known.0 a_within b_within).1 here)
+      | inr there ↦ or_right (lets_time a b timing) (list_any (lets_time a b) timings) (some_shows count views maps timings a b known.1 a_within b_within there)
+    ]

@@ -52,11 +52,11 @@ count_grows p q (x ∷ xs) more =
     let rest = count_grows p q xs more in
     let here = one (p x) (q x) (more x) in
     omega (arith, count_more p x xs, count_more q x xs) where
-  one : (a b : Bool) → (a ≡ true → b ≡ true) → cond a 1 0 ≤ cond b 1 0
-  one true true h = omega arith
-  one true false h = absurd (false≢true (h refl))
-  one false true h = omega arith
-  one false false h = omega arith
+      one : (a b : Bool) → (a ≡ true → b ≡ true) → cond a 1 0 ≤ cond b 1 0
+      one true true h = omega arith
+      one true false h = absurd (false≢true (h refl))
+      one false true h = omega arith
+      one false false h = omega arith
 
 -- one element more passes the second test
 count_exceeds : {X : Type 0} (p q : X → Bool) (xs : List X) (i : ℕ) (x : X) → ((y : X) → p y ≡ true → q y ≡ true)
@@ -72,29 +72,32 @@ count_exceeds p q (y ∷ xs) (suc i) x more at fails passes =
     let rest = count_exceeds p q xs i x more at fails passes in
     let here = one (p y) (q y) (more y) in
     omega (arith, count_more p y xs, count_more q y xs) where
-  one : (a b : Bool) → (a ≡ true → b ≡ true) → cond a 1 0 ≤ cond b 1 0
-  one true true h = omega arith
-  one true false h = absurd (false≢true (h refl))
-  one false true h = omega arith
-  one false false h = omega arith
+      one : (a b : Bool) → (a ≡ true → b ≡ true) → cond a 1 0 ≤ cond b 1 0
+      one true true h = omega arith
+      one true false h = absurd (false≢true (h refl))
+      one false true h = omega arith
+      one false false h = omega arith
 
 -- a clock has a lesser rank than one of its definition behind it
 pub rank_below : (all : List Standing) (i : ℕ) (x y : Standing) → slice_get all i ≡ Some x → x.definition ≡ y.definition → ahead_cmp x y ≡ Less
     → rank_among all x < rank_among all y
 rank_below all i x y at same less =
     count_exceeds (λ z. same_definition z.definition x.definition && is_ahead z x) (λ z. same_definition z.definition y.definition && is_ahead z y) all i x more at fails passes where
-  more : (z : Standing) → (same_definition z.definition x.definition && is_ahead z x) ≡ true → (same_definition z.definition y.definition && is_ahead z y) ≡ true
-  more z e =
-      let parts = both_true (same_definition z.definition x.definition) (is_ahead z x) e in
-      let ahead : ahead_cmp z y ≡ Less = ahead_total.trans z x y (lt_is (ahead_cmp z x) parts.1) less in
-      ap (λ b. b && is_ahead z y) (ap (λ d. same_definition z.definition d) (sym same) ∙ parts.0) ∙ ap is_lt ahead
-  and_false : (a b : Bool) → b ≡ false → (a && b) ≡ false
-  and_false true b e = e
-  and_false false b e = refl
-  fails : (same_definition x.definition x.definition && is_ahead x x) ≡ false
-  fails = and_false (same_definition x.definition x.definition) (is_ahead x x) (ap is_lt (tied_itself ahead_total x))
-  passes : (same_definition x.definition y.definition && is_ahead x y) ≡ true
-  passes = ap (λ b. b && is_ahead x y) (ap (λ d. same_definition x.definition d) (sym same) ∙ ap is_eq (tied_itself definition_total x.definition)) ∙ ap is_lt less
+      more : (z : Standing) → (same_definition z.definition x.definition && is_ahead z x) ≡ true → (same_definition z.definition y.definition && is_ahead z y) ≡ true
+      more z e =
+          let parts = both_true (same_definition z.definition x.definition) (is_ahead z x) e in
+          let ahead : ahead_cmp z y ≡ Less = ahead_total.trans z x y (lt_is (ahead_cmp z x) parts.1) less in
+          ap (λ b. b && is_ahead z y) (ap (λ d. same_definition z.definition d) (sym same) ∙ parts.0) ∙ ap is_lt ahead
+
+      and_false : (a b : Bool) → b ≡ false → (a && b) ≡ false
+      and_false true b e = e
+      and_false false b e = refl
+
+      fails : (same_definition x.definition x.definition && is_ahead x x) ≡ false
+      fails = and_false (same_definition x.definition x.definition) (is_ahead x x) (ap is_lt (tied_itself ahead_total x))
+
+      passes : (same_definition x.definition y.definition && is_ahead x y) ≡ true
+      passes = ap (λ b. b && is_ahead x y) (ap (λ d. same_definition x.definition d) (sym same) ∙ ap is_eq (tied_itself definition_total x.definition)) ∙ ap is_lt less
 
 place_is : (numbers : List ℕ) (arrivals : Arrivals) (place : ℕ) (clocks : List Clock) (waves : List Wave) (i : ℕ) (s : Standing)
     → slice_get (standings_from numbers arrivals place clocks waves) i ≡ Some s → s.place ≡ place + i
@@ -116,20 +119,28 @@ pub ranks_tell_apart : (numbers : List ℕ) (view : View) (p q : ℕ) (x y : Ide
 ranks_tell_apart numbers view p q x y e f same = by_order (ahead_cmp s t) refl where
   all : List Standing
   all = mode_standings numbers view
+
   one : (z : Standing) × (slice_get (mode_standings numbers view) p ≡ Some z) × (identity_among (mode_standings numbers view) z ≡ x)
   one = map_get (identity_among (mode_standings numbers view)) (mode_standings numbers view) p x e
+
   other : (z : Standing) × (slice_get (mode_standings numbers view) q ≡ Some z) × (identity_among (mode_standings numbers view) z ≡ y)
   other = map_get (identity_among (mode_standings numbers view)) (mode_standings numbers view) q y f
+
   s : Standing
   s = one.0
+
   t : Standing
   t = other.0
+
   equal : identity_among (mode_standings numbers view) one.0 ≡ identity_among (mode_standings numbers view) other.0
   equal = one.2 ∙ same ∙ sym other.2
+
   definitions : one.0.definition ≡ other.0.definition
   definitions = ap (λ (i : Identity). i.definition) equal
+
   ranks : rank_among (mode_standings numbers view) one.0 ≡ rank_among (mode_standings numbers view) other.0
   ranks = ap (λ (i : Identity). i.rank) equal
+
   by_order : (o : Ordering) → ahead_cmp one.0 other.0 ≡ o → p ≡ q
   by_order Less h =
       let below = rank_below (mode_standings numbers view) p one.0 other.0 one.1 definitions h in

@@ -3,8 +3,9 @@ use Rattle.std.proofs.Common.{◌≡◌, ℕ, zero, suc, ◌+◌, ◌-◌, ◌<�
 use Rattle.std.specs.Prelude.{◌⊎◌, ◌↔◌, slice_get}
 use Rattle.std.specs.List.{concat, Contains, AllZip}
 use Rattle.std.proofs.lemmas.Bool.{cases_lt}
-use Rattle.std.proofs.lemmas.List.{length-map, length_push}
-use Rattle.std.proofs.lemmas.Option.{slice_get_within, slice_get_past, get_or_from_slice_get}
+use Rattle.std.proofs.lemmas.List.{length-map}
+use Rattle.std.proofs.lemmas.Option.{slice_get_within, slice_get-map, get_or_from_slice_get}
+use Rattle.std.specs.Option.{option_map}
 use Rattle.sdc_model.specs.declared.clocks.Clock.{Clock}
 use Rattle.sdc_model.specs.declared.clocks.Wave.{Wave}
 use Rattle.sdc_model.specs.declared.views.Arrivals.{Arrivals}
@@ -52,28 +53,34 @@ row_at [] maps m view shape waves e = cc
 row_at (first ∷ views) [] m view shape waves e = absurd shape
 row_at (first ∷ views) (row ∷ maps) zero view shape waves e =
     let same : first ≡ view = cc in
-    let long = long_identities row first waves.0 in
-    (row, refl, subst (λ (v : View). IsRow (first ∷ views) (row ∷ maps) v row) same (record {
-      offset = 0;
-      long = shape.0;
-      waves = waves.0;
-      number = λ i within. ap (slice_get (row ++ concat maps)) (omega arith) ∙ get_front row (concat maps) i within;
-      identity = λ i within. ap (slice_get (identities_among (mode_standings row first) ++ identities_of views maps)) (omega arith)
-        ∙ get_front (identities_among (mode_standings row first)) (identities_of views maps) i (omega (arith, shape.0));
-    }))
+    let long = long_identities row first waves.0 in (
+      row,
+      refl,
+      subst (λ (v : View). IsRow (first ∷ views) (row ∷ maps) v row) same (record {
+        offset = 0;
+        long = shape.0;
+        waves = waves.0;
+        number = λ i within. ap (slice_get (row ++ concat maps)) (omega arith) ∙ get_front row (concat maps) i within;
+        identity = λ i within. ap (slice_get (identities_among (mode_standings row first) ++ identities_of views maps)) (omega arith)
+            ∙ get_front (identities_among (mode_standings row first)) (identities_of views maps) i (omega (arith, shape.0));
+      }),
+    )
 row_at (first ∷ views) (row ∷ maps) (suc m) view shape waves e =
     let rest = row_at views maps m view shape.1 waves.1 e in
     let known = rest.2 in
-    let long = long_identities row first waves.0 in
-    (rest.0, rest.1, record {
-      offset = length row + known.offset;
-      long = known.long;
-      waves = known.waves;
-      number = λ i within. ap (slice_get (row ++ concat maps)) (omega arith)
-        ∙ get_behind row (concat maps) (length row) (known.offset + i) refl ∙ known.number i within;
-      identity = λ i within. ap (slice_get (identities_among (mode_standings row first) ++ identities_of views maps)) (omega arith)
-        ∙ get_behind (identities_among (mode_standings row first)) (identities_of views maps) (length row) (known.offset + i) (omega (arith, shape.0)) ∙ known.identity i within;
-    })
+    let long = long_identities row first waves.0 in (
+      rest.0,
+      rest.1,
+      record {
+        offset = length row + known.offset;
+        long = known.long;
+        waves = known.waves;
+        number = λ i within. ap (slice_get (row ++ concat maps)) (omega arith)
+            ∙ get_behind row (concat maps) (length row) (known.offset + i) refl ∙ known.number i within;
+        identity = λ i within. ap (slice_get (identities_among (mode_standings row first) ++ identities_of views maps)) (omega arith)
+            ∙ get_behind (identities_among (mode_standings row first)) (identities_of views maps) (length row) (known.offset + i) (omega (arith, shape.0)) ∙ known.identity i within;
+      },
+    )
 
 -- ---- clocks of one mode
 
@@ -105,13 +112,13 @@ apart views map waves is = each_apart map.maps (λ m row e.
     let same : Some known.0 ≡ Some row = sym known.1 ∙ e in
     let same' : known.0 ≡ row = cc in
     subst IsApart same' (row_apart views map found.0 known.0 is known.2)) where
-  row_of : (views : List View) (maps : List (List ℕ)) (m : ℕ) (row : List ℕ) → AllZip (λ view row. length row ≡ length view.mode.clocks) views maps → slice_get maps m ≡ Some row
-      → (view : View) × (slice_get views m ≡ Some view)
-  row_of [] [] m row shape e = cc
-  row_of [] (r ∷ maps) m row shape e = absurd shape
-  row_of (view ∷ views) [] m row shape e = absurd shape
-  row_of (view ∷ views) (r ∷ maps) zero row shape e = (view, refl)
-  row_of (view ∷ views) (r ∷ maps) (suc m) row shape e = row_of views maps m row shape.1 e
+      row_of : (views : List View) (maps : List (List ℕ)) (m : ℕ) (row : List ℕ) → AllZip (λ view row. length row ≡ length view.mode.clocks) views maps → slice_get maps m ≡ Some row
+          → (view : View) × (slice_get views m ≡ Some view)
+      row_of [] [] m row shape e = cc
+      row_of [] (r ∷ maps) m row shape e = absurd shape
+      row_of (view ∷ views) [] m row shape e = absurd shape
+      row_of (view ∷ views) (r ∷ maps) zero row shape e = (view, refl)
+      row_of (view ∷ views) (r ∷ maps) (suc m) row shape e = row_of views maps m row shape.1 e
 
 -- ---- equal modes
 
@@ -125,9 +132,9 @@ same_standings numbers numbers' arrivals arrivals' place (clock ∷ clocks) (oth
 same_standings numbers numbers' arrivals arrivals' place (clock ∷ clocks) (other ∷ clocks') (wave ∷ waves) primary primary' same =
     let stands : Clock → Standing = λ c. record { definition = definition_of c.form c wave; name = c.name; place = place } in
     let here : record { definition = definition_of (merged_form numbers arrivals place clock.form) clock wave; name = clock.name; place = place } ≡ stands clock =
-      ap (λ form. record { definition = definition_of form clock wave; name = clock.name; place = place }) (form_stays numbers arrivals place clock.form primary.0) in
+    ap (λ form. record { definition = definition_of form clock wave; name = clock.name; place = place }) (form_stays numbers arrivals place clock.form primary.0) in
     let there : record { definition = definition_of (merged_form numbers' arrivals' place other.form) other wave; name = other.name; place = place } ≡ stands other =
-      ap (λ form. record { definition = definition_of form other wave; name = other.name; place = place }) (form_stays numbers' arrivals' place other.form primary'.0) in
+    ap (λ form. record { definition = definition_of form other wave; name = other.name; place = place }) (form_stays numbers' arrivals' place other.form primary'.0) in
     let equal : stands clock ≡ stands other = ap stands same.0 in
     let first = here ∙ equal ∙ sym there in
     let rest = same_standings numbers numbers' arrivals arrivals' (suc place) clocks clocks' waves primary.1 primary'.1 same.1 in
@@ -163,20 +170,20 @@ shared views map primary waves is m n first second e f same =
     let known = one.2 in
     let known' = other.2 in
     let standings : mode_standings one.0 first ≡ mode_standings other.0 second =
-      same_standings one.0 other.0 first.arrivals second.arrivals 0 first.mode.clocks second.mode.clocks first.waves
-        (primary_view views m first primary e) (primary_view views n second primary f) same.clocks
-      ∙ ap (λ ws. standings_from other.0 second.arrivals 0 second.mode.clocks ws) same.waves in
+    same_standings one.0 other.0 first.arrivals second.arrivals 0 first.mode.clocks second.mode.clocks first.waves
+    (primary_view views m first primary e) (primary_view views n second primary f) same.clocks
+    ∙ ap (λ ws. standings_from other.0 second.arrivals 0 second.mode.clocks ws) same.waves in
     let many = zip_length (λ clock other. without_line clock ≡ without_line other) first.mode.clocks second.mode.clocks same.clocks in
     let long : length one.0 ≡ length other.0 = known.long ∙ many ∙ sym known'.long in
     let rows : one.0 ≡ other.0 = same_lists one.0 other.0 long (λ i within.
-      let x = element_at one.0 i within in
-      let y = element_at other.0 i (omega arith) in
-      let number = known.number i within ∙ x.1 in
-      let number' = known'.number i (omega arith) ∙ y.1 in
-      let far = slice_get_within (concat map.maps) (known.offset + i) x.0 number in
-      let far' = slice_get_within (concat map.maps) (known'.offset + i) y.0 number' in
-      let ids = known.identity i within ∙ ap (λ ss. slice_get (identities_among ss) i) standings ∙ sym (known'.identity i (omega arith)) in
-      sym (known.number i within) ∙ (is.one (known.offset + i) (known'.offset + i) far far').1 ids ∙ known'.number i (omega arith)) in
+    let x = element_at one.0 i within in
+    let y = element_at other.0 i (omega arith) in
+    let number = known.number i within ∙ x.1 in
+    let number' = known'.number i (omega arith) ∙ y.1 in
+    let far = slice_get_within (concat map.maps) (known.offset + i) x.0 number in
+    let far' = slice_get_within (concat map.maps) (known'.offset + i) y.0 number' in
+    let ids = known.identity i within ∙ ap (λ ss. slice_get (identities_among ss) i) standings ∙ sym (known'.identity i (omega arith)) in
+    sym (known.number i within) ∙ (is.one (known.offset + i) (known'.offset + i) far far').1 ids ∙ known'.number i (omega arith)) in
     one.1 ∙ ap Some rows ∙ sym other.1
 
 -- ---- merged clocks
@@ -189,3 +196,29 @@ from_mode views map is k clock e =
     let merged = is.merged k clock wave.0 e wave.1 in
     let at = merged.is_first.is in
     (merged.at, slice_get_within (concat map.maps) merged.at k at, get_or_from_slice_get (concat map.maps) merged.at k k at)
+
+abbrev names : List Clock → List (List ℕ)
+names clocks = map (λ clock. clock.name) clocks
+
+get_taken : {X : Type 0} (xs : List X) (k l : ℕ) → k < l → slice_get (take l xs) k ≡ slice_get xs k
+get_taken xs k zero less = absurd (omega arith)
+get_taken [] k (suc l) less = refl
+get_taken (x ∷ xs) zero (suc l) less = refl
+get_taken (x ∷ xs) (suc k) (suc l) less = get_taken xs k l (omega arith)
+
+pub names_apart : (views : List View) (map : ClockMap) → IsClockMap views map → (k l : ℕ) (first second : Clock) → k < l
+    → slice_get map.clocks k ≡ Some first → slice_get map.clocks l ≡ Some second → first.name ≡ second.name → ⊥
+names_apart views map is k l first second less e f same =
+    let within = slice_get_within map.clocks l second f in
+    let waves = is.waves in
+    let wave = element_at map.waves l (omega arith) in
+    let merged = is.merged l second wave.0 f wave.1 in
+    let taken : slice_get (names (take l map.clocks)) k ≡ Some first.name =
+    slice_get-map (λ (c : Clock). c.name) (take l map.clocks) k ∙ ap (option_map (λ (c : Clock). c.name)) (get_taken map.clocks k l less ∙ e) in
+    let there : Contains (names (take l map.clocks)) second.name =
+    subst (Contains (names (take l map.clocks))) same
+    (k, slice_get_within (names (take l map.clocks)) k first.name taken, get_or_from_slice_get (names (take l map.clocks)) k first.name first.name taken) in
+    elim merged.name [
+      | inl own ↦ own.0 (subst (Contains (names (take l map.clocks))) own.1 there)
+      | inr free ↦ free.1.not_earlier there
+    ]

@@ -43,9 +43,9 @@ front_stands view i clock wave none primary waves within clock_is wave_is =
     let form = form_stays [] view.arrivals i clock.form p in
     let within_waves : i < length view.waves = omega arith in
     let e : drop i view.mode.clocks ≡ clock ∷ drop (i + 1) view.mode.clocks =
-      drop_more view.mode.clocks i clock within ∙ ap (λ c. c ∷ drop (i + 1) view.mode.clocks) (sym clock_is) in
+    drop_more view.mode.clocks i clock within ∙ ap (λ c. c ∷ drop (i + 1) view.mode.clocks) (sym clock_is) in
     let f : drop i view.waves ≡ wave ∷ drop (i + 1) view.waves =
-      drop_more view.waves i none within_waves ∙ ap (λ w. w ∷ drop (i + 1) view.waves) (sym wave_is) in
+    drop_more view.waves i none within_waves ∙ ap (λ w. w ∷ drop (i + 1) view.waves) (sym wave_is) in
     rw (e, f, form, add-one i) refl
 
 pub standings_step : (view : View) (i : ℕ) (clock : Clock) (wave none : Wave) (standings after : List Standing) (standing : Standing)

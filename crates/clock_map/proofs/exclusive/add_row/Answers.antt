@@ -18,8 +18,9 @@ loop-second-preserved c =
     let b = c.loop-second.second in
     let before = c.loop-second.pairs in
     let added : c.if-not-are_timed.pairs ≡ before ++ pair_unless c.are_timed.result a b =
-      elim c.if-not-are_timed.branch [
-        then-not-are_timed+in_ok-push w ↦ w.pairs-is ∙ w.in_ok-push.ensures.ok ∙ ap (λ t. before ++ pair_unless t a b) (sym w.if-not-are_timed.true)
-      | else-not-are_timed w ↦ w.pairs-is ∙ sym (append-nil before) ∙ ap (λ t. before ++ pair_unless t a b) (sym w.if-not-are_timed.false) ] in
+    elim c.if-not-are_timed.branch [
+      | then-not-are_timed+in_ok-push w ↦ w.pairs-is ∙ w.in_ok-push.ensures.ok ∙ ap (λ t. before ++ pair_unless t a b) (sym w.if-not-are_timed.true)
+      | else-not-are_timed w ↦ w.pairs-is ∙ sym (append-nil before) ∙ ap (λ t. before ++ pair_unless t a b) (sym w.if-not-are_timed.false)
+    ] in
     row_step c.args.timings.now a b c.args.count before c.if-not-are_timed.pairs _ c.are_timed.result
-      c.loop-second-test.true c.are_timed.ensures added c.loop-second.invariant
+    c.loop-second-test.true c.are_timed.ensures added c.loop-second.invariant

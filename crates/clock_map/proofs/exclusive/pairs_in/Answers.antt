@@ -11,8 +11,8 @@ loop-pair-preserved c =
     let none : Pair = record { first = 0; second = 0 } in
     let pair = get_or c.as_slice-pair-items.result.now c.loop-pair.pair-index none in
     pairs_step c.args.pairs.now c.loop-pair.pair-index pair none c.loop-pair.set.keys c.insert.new.self.keys
-      (rw items at c.loop-pair-test.true) (ap (λ ps. get_or ps c.loop-pair.pair-index none) items)
-      (λ a b. c.in_ok-insert.ensures.updates.0 (a, b)) c.loop-pair.invariant
+    (rw items at c.loop-pair-test.true) (ap (λ ps. get_or ps c.loop-pair.pair-index none) items)
+    (λ a b. c.in_ok-insert.ensures.updates.0 (a, b)) c.loop-pair.invariant
 
 pub returns : goal.returns
 returns c =

@@ -13,9 +13,9 @@ pub loop-at-preserved : goal.loop-at-preserved
 loop-at-preserved c =
     let views = c.as_slice-view-items.ensures in
     timings_step c.args.count c.args.modes.now c.args.maps.now c.loop-at.at c.loop-at.timings.items c.push.new.self.items
-      c.view-item.result c.index-maps-at.result (record { places = c.in_ok-places.places; exclusive = c.in_ok-exclusive.exclusive })
-      c.requires.beside (rw views at c.loop-at-test.true) (rw views at c.view-item.is) (rw c.as_slice-maps.ensures at c.index-maps-at.is)
-      c.in_ok-places.ensures c.in_ok-exclusive.ensures c.in_ok-push.ensures.items c.loop-at.invariant
+    c.view-item.result c.index-maps-at.result (record { places = c.in_ok-places.places; exclusive = c.in_ok-exclusive.exclusive })
+    c.requires.beside (rw views at c.loop-at-test.true) (rw views at c.view-item.is) (rw c.as_slice-maps.ensures at c.index-maps-at.is)
+    c.in_ok-places.ensures c.in_ok-exclusive.ensures c.in_ok-push.ensures.items c.loop-at.invariant
 
 pub returns : goal.returns
 returns c =

@@ -16,6 +16,6 @@ loop-place-preserved c =
     let clock_is : clock ≡ get_or c.args.view.now.mode.clocks place clock = rw clocks at c.clock-item.is in
     let wave_is : wave ≡ get_or c.args.view.now.waves place none = ap (λ ws. get_or ws place none) waves in
     let standing : record { definition = c.in_ok-definition.definition; name = c.in_ok-name.name; place = place } ≡ plain_standing place clock wave =
-      λ i. record { definition = c.in_ok-definition.ensures i; name = c.in_ok-name.ensures i; place = place } in
+    λ i. record { definition = c.in_ok-definition.ensures i; name = c.in_ok-name.ensures i; place = place } in
     standings_step c.args.view.now place clock wave none c.loop-place.standings _ _ c.requires.primary c.requires.waves
-      within clock_is wave_is standing c.in_ok-push.ensures.ok c.loop-place.invariant
+    within clock_is wave_is standing c.in_ok-push.ensures.ok c.loop-place.invariant
