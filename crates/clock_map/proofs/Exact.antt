@@ -1,16 +1,13 @@
 -- Values that the derived order finds equal are equal.
-use Rattle.std.proofs.Common.{◌≡◌, ℕ, ◌<◌, Bool, true, false, List, [], ◌∷◌, Option, Some, None, Ordering, refl, sym, ap, arith, rules}
-use Rattle.std.specs.Ordering.{is_eq, is_lt, nat_cmp, int_cmp, bool_cmp, ordering_then}
+use Rattle.std.proofs.Common.{◌≡◌, true, false, [], ◌∷◌, Some, None, Ordering, refl, ap}
+use Rattle.std.specs.Ordering.{nat_cmp, int_cmp, bool_cmp, ordering_then}
 use Rattle.std.specs.Option.{option_cmp}
 use Rattle.std.specs.Cmp.Lexicographic.{slice_cmp}
 use Rattle.std.specs.declared.cmp.Ordering.TheVariants.{Less, Equal, Greater}
-use Rattle.std.proofs.lemmas.Map.Lookups.{CmpEqualImpliesEq, exact_signed, exact_unsigned, exact_bytes}
+use Rattle.std.proofs.lemmas.Map.Lookups.{CmpEqualImpliesEq, exact_signed, exact_unsigned}
 use Rattle.sdc_model.specs.declared.identities.Definition.{Definition}
-use Rattle.sdc_model.specs.declared.clocks.Form.{Form}
 use Rattle.sdc_model.specs.declared.clocks.Form.TheVariants.{Primary, Generated}
-use Rattle.sdc_model.specs.declared.clocks.Shape.{Shape}
 use Rattle.sdc_model.specs.declared.clocks.Shape.TheVariants.{Divide, Multiply, Edges}
-use Rattle.sdc_model.specs.declared.clocks.Wave.{Wave}
 use Rattle.sdc_model.specs.contracts.identities.DefinitionOrd.TheImpl as definition_order
 use Rattle.sdc_model.specs.contracts.identities.IdentityOrd.TheImpl as identity_order
 use Rattle.sdc_model.specs.contracts.pins.PinOrd.TheImpl as pin_order

@@ -1,16 +1,14 @@
 -- The exclusive pairs, from the tests on what is kept of each mode.
-use Rattle.std.proofs.Common.{◌≡◌, ◌≢◌, ℕ, zero, suc, ◌+◌, ◌-◌, ◌<◌, ◌≤◌, Bool, true, false, not, List, [], ◌∷◌, ◌++◌, length, get_or, Option, Some, None, refl, sym, ap, ◌∙◌, subst, inl, inr, arith, min, max}
-use Rattle.std.specs.Prelude.{◌⊎◌, ◌↔◌, ◌||◌, slice_get, IsTrue, nat_le, if◌then◌else◌}
+use Rattle.std.proofs.Common.{◌≡◌, ℕ, ◌<◌, ◌≤◌, Bool, true, false, not, List, [], ◌∷◌, get_or, Option, Some, None, refl, sym, ap, ◌∙◌, subst, inl, inr, arith, min, max}
+use Rattle.std.specs.Prelude.{◌⊎◌, ◌↔◌, ◌||◌, nat_le, if◌then◌else◌}
 use Rattle.std.specs.List.{Contains, list_any}
-use Rattle.std.proofs.lemmas.Bool.{false≢true, cases_lt}
+use Rattle.std.proofs.lemmas.Bool.{false≢true}
 use Rattle.std.proofs.lemmas.Bool.Decides.{nat_tests}
-use Rattle.std.proofs.lemmas.List.Elements.{Contains-append_left, Contains-append_right, Contains-append_cases, Contains-push, Contains-push_cases}
-use Rattle.std.proofs.lemmas.Option.{slice_get_within, get_or_from_slice_get}
 use Rattle.sdc_model.specs.declared.clocks.Pair.{Pair}
 use Rattle.sdc_model.specs.declared.views.View.{View}
-use Rattle.sdc_model.specs.Exclusive.{pair_of, LetsBeTimed, SomeLetsBeTimed, AreExclusive, ComesBefore, AreExclusivePairs}
+use Rattle.sdc_model.specs.Exclusive.{pair_of, LetsBeTimed, SomeLetsBeTimed}
 use Rattle.clock_map.specs.declared.exclusive.Timing.{Timing}
-use Rattle.clock_map.specs.Timings.{same_pair, HoldsPairs, IsTiming, AreTimings, lets_at, lets_time, pair_unless, row_from, row, rows_from}
+use Rattle.clock_map.specs.Timings.{same_pair, IsTiming, AreTimings, lets_at, lets_time}
 
 abbrev pair : ℕ → ℕ → Pair
 pair a b = record { first = a; second = b }

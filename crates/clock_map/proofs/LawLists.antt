@@ -1,33 +1,25 @@
 -- Clocks of one mode, and clocks of equal modes, in a clock map.
-use Rattle.std.proofs.Common.{◌≡◌, ◌≢◌, ℕ, zero, suc, ◌+◌, ◌-◌, ◌<◌, ◌≤◌, Bool, true, false, cond, List, [], ◌∷◌, ◌++◌, length, take, map, get_or, Option, Some, None, Ordering, refl, sym, ap, ◌∙◌, subst, inl, inr, arith}
-use Rattle.std.specs.Prelude.{◌⊎◌, ◌↔◌, ◌&&◌, slice_get}
+use Rattle.std.proofs.Common.{◌≡◌, ℕ, zero, suc, ◌+◌, ◌<◌, ◌≤◌, Bool, true, false, cond, List, [], ◌∷◌, map, Option, Some, Ordering, refl, sym, ap, ◌∙◌, arith}
+use Rattle.std.specs.Prelude.{◌&&◌, slice_get}
 use Rattle.std.specs.Ordering.{is_eq, is_lt, nat_cmp, ordering_then}
 use Rattle.std.specs.declared.cmp.Ordering.TheVariants.{Less, Equal, Greater}
 use Rattle.std.specs.Cmp.{IsTotalOrder}
 use Rattle.std.specs.Cmp.Lexicographic.{slice_cmp}
 use Rattle.std.specs.Option.{option_map, unwrap_or}
 use Rattle.std.specs.Ordering.{ordering_reverse}
-use Rattle.std.specs.List.{count_by, concat, Contains, AllZip}
+use Rattle.std.specs.List.{count_by}
 use Rattle.std.proofs.lemmas.Bool.{false≢true}
 use Rattle.std.proofs.lemmas.Cmp.{tied_itself, nat_list_cmp_total, nat_cmp_total, on_total, then_total}
 use Rattle.std.proofs.lemmas.Map.Lookups.{exact_unsigned}
-use Rattle.std.proofs.lemmas.List.{length-map}
-use Rattle.std.proofs.lemmas.Option.{slice_get_within, slice_get-map}
 use Rattle.sdc_model.specs.declared.clocks.Clock.{Clock}
 use Rattle.sdc_model.specs.declared.clocks.Wave.{Wave}
 use Rattle.sdc_model.specs.declared.views.Arrivals.{Arrivals}
 use Rattle.sdc_model.specs.declared.views.View.{View}
-use Rattle.sdc_model.specs.declared.views.ClockMap.{ClockMap}
-use Rattle.sdc_model.specs.declared.identities.Definition.{Definition}
 use Rattle.sdc_model.specs.declared.identities.Standing.{Standing}
 use Rattle.sdc_model.specs.declared.identities.Identity.{Identity}
-use Rattle.sdc_model.specs.ClockIdentity.{merged_form, standings_from, mode_standings, same_definition, is_ahead, rank_among, identity_among, identities_among, identities_of, IsClockMap}
-use Rattle.sdc_model.specs.PlainViews.{HaveWaves}
-use Rattle.sdc_model.specs.Exclusive.{IsApart, AreApart}
+use Rattle.sdc_model.specs.ClockIdentity.{standings_from, mode_standings, same_definition, is_ahead, rank_among, identity_among, identities_among}
 use Rattle.clock_map.proofs.Exact.{both_equal}
-use Rattle.clock_map.proofs.NumberLists.{element_at}
-use Rattle.clock_map.proofs.RankLists.{definition_cmp, definition_total, count_more}
-use Rattle.clock_map.proofs.PlainMaps.{length-from}
+use Rattle.clock_map.proofs.RankLists.{definition_total, count_more}
 
 -- ---- ranks tell the clocks of a mode apart
 

@@ -1,5 +1,5 @@
 -- Names in a set and names in a list.
-use Rattle.std.proofs.Common.{◌≡◌, ℕ, ◌+◌, ◌<◌, Bool, true, false, cond, List, [], ◌∷◌, ◌++◌, length, take, map, get_or, Ordering, refl, sym, ap, ◌∙◌, subst, inl, inr, arith}
+use Rattle.std.proofs.Common.{◌≡◌, ℕ, ◌+◌, ◌<◌, Bool, true, false, cond, List, [], ◌∷◌, ◌++◌, length, take, get_or, Ordering, refl, sym, ap, ◌∙◌, subst, inl, inr}
 use Rattle.std.specs.Prelude.{◌⊎◌, ◌↔◌}
 use Rattle.std.specs.Ordering.{is_eq, nat_cmp}
 use Rattle.std.specs.declared.cmp.Ordering.TheVariants.{Less, Equal, Greater}
@@ -12,7 +12,7 @@ use Rattle.std.proofs.lemmas.List.Elements.{Contains-append_left, Contains-push,
 use Rattle.std.proofs.lemmas.Map.Lookups.{exact_bytes}
 use Rattle.std.proofs.lemmas.Map.Views.{btree_set_contains_iff}
 use Rattle.sdc_model.specs.declared.identities.Standing.{Standing}
-use Rattle.sdc_model.specs.ClockIdentity.{names_of, numbered_name, IsFreeName, IsMergedName}
+use Rattle.sdc_model.specs.ClockIdentity.{names_of, numbered_name, IsMergedName}
 use Rattle.clock_map.specs.MergedClocks.{HaveSameNames, HasOneMore}
 
 abbrev text_cmp : List ℕ → List ℕ → Ordering

@@ -1,6 +1,6 @@
 -- Numbering identities one by one, with a map of what is known.
-use Rattle.std.proofs.Common.{◌≡◌, ℕ, zero, suc, ◌+◌, ◌-◌, ◌<◌, ◌≤◌, Bool, true, false, cond, List, [], ◌∷◌, ◌++◌, length, take, drop, get_or, Option, Some, None, refl, sym, ap, ◌∙◌, subst, inl, inr, arith, add-one}
-use Rattle.std.specs.Prelude.{◌⊎◌, ◌↔◌, slice_get}
+use Rattle.std.proofs.Common.{◌≡◌, ℕ, zero, suc, ◌+◌, ◌<◌, ◌≤◌, false, cond, List, [], ◌∷◌, ◌++◌, length, take, get_or, Some, None, refl, sym, ap, ◌∙◌, subst, inl, inr, arith, add-one}
+use Rattle.std.specs.Prelude.{◌⊎◌, slice_get}
 use Rattle.std.specs.Ordering.{is_eq}
 use Rattle.std.specs.declared.cmp.Ordering.{Ordering}
 use Rattle.std.specs.declared.cmp.Ordering.TheVariants.{Less, Equal, Greater}
@@ -9,7 +9,7 @@ use Rattle.std.specs.BTreeMap.{BTreeMap, get, Updates, IsUnchanged, btree_map_le
 use Rattle.std.specs.BTreeMap.{is_at}
 use Rattle.std.specs.Map.{lookup}
 use Rattle.std.proofs.lemmas.Cmp.{tied_itself}
-use Rattle.std.proofs.lemmas.Option.{slice_get_within, slice_get_past, slice_get-get_or}
+use Rattle.std.proofs.lemmas.Option.{slice_get_within}
 use Rattle.std.proofs.lemmas.List.{length_push, take_more, take_all, length-take-le}
 use Rattle.sdc_model.specs.declared.identities.Identity.{Identity}
 use Rattle.sdc_model.specs.contracts.identities.IdentityOrd.TheImpl.Laws as identity_laws

@@ -1,13 +1,13 @@
 -- Which pairs stand in the rows, and in what order.
-use Rattle.std.proofs.Common.{◌≡◌, ◌≢◌, ℕ, zero, suc, ◌+◌, ◌-◌, ◌<◌, ◌≤◌, Bool, true, false, List, [], ◌∷◌, ◌++◌, length, get_or, Some, None, refl, sym, ap, ◌∙◌, subst, inl, inr, arith}
-use Rattle.std.specs.Prelude.{◌⊎◌, ◌↔◌, slice_get, if◌then◌else◌}
+use Rattle.std.proofs.Common.{◌≡◌, ℕ, zero, suc, ◌+◌, ◌-◌, ◌<◌, ◌≤◌, Bool, true, false, List, [], ◌∷◌, ◌++◌, length, Some, refl, sym, ap, ◌∙◌, subst, inl, inr, arith}
+use Rattle.std.specs.Prelude.{◌⊎◌, slice_get}
 use Rattle.std.specs.List.{Contains, list_any}
 use Rattle.std.proofs.lemmas.Bool.{false≢true, cases_lt}
 use Rattle.std.proofs.lemmas.List.Elements.{Contains-append_left, Contains-append_right, Contains-append_cases, Contains-push, Contains-push_cases}
 use Rattle.std.proofs.lemmas.Option.{slice_get_within, get_or_from_slice_get}
 use Rattle.sdc_model.specs.declared.clocks.Pair.{Pair}
 use Rattle.sdc_model.specs.declared.views.View.{View}
-use Rattle.sdc_model.specs.Exclusive.{SomeLetsBeTimed, AreExclusive, ComesBefore, AreExclusivePairs}
+use Rattle.sdc_model.specs.Exclusive.{ComesBefore, AreExclusivePairs}
 use Rattle.clock_map.specs.declared.exclusive.Timing.{Timing}
 use Rattle.clock_map.specs.Timings.{AreTimings, lets_time, pair_unless, row_from, row, rows_from}
 use Rattle.clock_map.proofs.ExclusiveLists.{some_says, some_shows}

@@ -1,7 +1,6 @@
 -- Rows of pairs, built from their front.
-use Rattle.std.proofs.Common.{◌≡◌, ℕ, zero, suc, ◌+◌, ◌-◌, ◌<◌, ◌≤◌, Bool, true, false, List, [], ◌∷◌, ◌++◌, length, get_or, refl, sym, ap, ◌∙◌, subst, inl, inr, append_assoc, add-one, arith}
-use Rattle.std.specs.Prelude.{◌⊎◌, ◌↔◌, slice_get}
-use Rattle.std.specs.List.{Contains, list_any}
+use Rattle.std.proofs.Common.{◌≡◌, ℕ, suc, ◌+◌, ◌-◌, ◌<◌, Bool, List, ◌++◌, sym, ap, ◌∙◌, append_assoc, add-one, arith}
+use Rattle.std.specs.List.{list_any}
 use Rattle.sdc_model.specs.declared.clocks.Pair.{Pair}
 use Rattle.clock_map.specs.declared.exclusive.Timing.{Timing}
 use Rattle.clock_map.specs.Timings.{lets_time, pair_unless, row_from, row, rows_from}

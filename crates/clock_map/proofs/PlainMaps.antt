@@ -1,8 +1,8 @@
 -- The parts of a clock map put together, for modes without generated clocks.
-use Rattle.std.proofs.Common.{◌≡◌, ℕ, zero, suc, ◌+◌, ◌-◌, ◌<◌, ◌≤◌, List, [], ◌∷◌, ◌++◌, length, take, drop, map, get_or, Option, Some, None, refl, sym, ap, ◌∙◌, subst, inl, inr, arith}
-use Rattle.std.specs.Prelude.{◌⊎◌, ◌↔◌, slice_get}
+use Rattle.std.proofs.Common.{◌≡◌, ℕ, zero, suc, ◌-◌, ◌<◌, ◌≤◌, List, [], ◌∷◌, ◌++◌, length, Some, None, refl, sym, ap, ◌∙◌, subst, inl, inr, arith}
+use Rattle.std.specs.Prelude.{slice_get}
 use Rattle.std.specs.Option.{option_and_then}
-use Rattle.std.specs.List.{All, AllZip, concat}
+use Rattle.std.specs.List.{AllZip, concat}
 use Rattle.std.proofs.lemmas.Bool.{cases_lt}
 use Rattle.std.proofs.lemmas.List.{length-append, length-map}
 use Rattle.std.proofs.lemmas.Option.{slice_get_within}
@@ -15,7 +15,7 @@ use Rattle.sdc_model.specs.declared.views.View.{View}
 use Rattle.sdc_model.specs.declared.views.ClockMap.{ClockMap}
 use Rattle.sdc_model.specs.declared.identities.Standing.{Standing}
 use Rattle.sdc_model.specs.declared.identities.Identity.{Identity}
-use Rattle.sdc_model.specs.ClockIdentity.{merged_form, definition_of, standings_from, mode_standings, identities_among, identity_among, standings_of, identities_of, master_of, master_at, HasDepth, HasDepthAt, StandsAhead, IsFirstAt, IsMerged, IsClockMap}
+use Rattle.sdc_model.specs.ClockIdentity.{merged_form, definition_of, standings_from, mode_standings, identities_among, identity_among, standings_of, identities_of, master_of, HasDepthAt, IsFirstAt, IsClockMap}
 use Rattle.sdc_model.specs.PlainViews.{IsPrimary, ArePrimary, ModesArePrimary, HaveWaves, clock_count}
 use Rattle.clock_map.specs.Numbering.{RisesTo, AreNumbers}
 use Rattle.clock_map.specs.MergedClocks.{AreMerged}

@@ -1,8 +1,7 @@
 -- The rows of a clock map: where they stand among all numbers, and what equal clocks share.
-use Rattle.std.proofs.Common.{◌≡◌, ℕ, zero, suc, ◌+◌, ◌-◌, ◌<◌, ◌≤◌, List, [], ◌∷◌, ◌++◌, length, take, map, get_or, Option, Some, None, refl, sym, ap, ◌∙◌, subst, inl, inr, arith}
-use Rattle.std.specs.Prelude.{◌⊎◌, ◌↔◌, slice_get}
+use Rattle.std.proofs.Common.{◌≡◌, ℕ, zero, suc, ◌+◌, ◌<◌, List, [], ◌∷◌, ◌++◌, length, take, map, Some, refl, sym, ap, ◌∙◌, subst, inl, inr, arith}
+use Rattle.std.specs.Prelude.{slice_get}
 use Rattle.std.specs.List.{concat, Contains, AllZip}
-use Rattle.std.proofs.lemmas.Bool.{cases_lt}
 use Rattle.std.proofs.lemmas.List.{length-map}
 use Rattle.std.proofs.lemmas.Option.{slice_get_within, slice_get-map, get_or_from_slice_get}
 use Rattle.std.specs.Option.{option_map}
@@ -12,9 +11,8 @@ use Rattle.sdc_model.specs.declared.views.Arrivals.{Arrivals}
 use Rattle.sdc_model.specs.declared.views.View.{View}
 use Rattle.sdc_model.specs.declared.views.ClockMap.{ClockMap}
 use Rattle.sdc_model.specs.declared.identities.Standing.{Standing}
-use Rattle.sdc_model.specs.declared.identities.Identity.{Identity}
 use Rattle.sdc_model.specs.ClockIdentity.{merged_form, definition_of, standings_from, mode_standings, identity_among, identities_among, identities_of, IsClockMap}
-use Rattle.sdc_model.specs.PlainViews.{IsPrimary, ArePrimary, ModesArePrimary, HaveWaves, without_line, HaveSameClocks}
+use Rattle.sdc_model.specs.PlainViews.{ArePrimary, ModesArePrimary, HaveWaves, without_line, HaveSameClocks}
 use Rattle.sdc_model.specs.Exclusive.{IsApart, AreApart}
 use Rattle.clock_map.proofs.NumberLists.{element_at}
 use Rattle.clock_map.proofs.StandingLists.{form_stays}

@@ -1,5 +1,5 @@
 -- The clocks of modes without generated clocks, as ranks see them.
-use Rattle.std.proofs.Common.{◌≡◌, ℕ, zero, suc, ◌+◌, ◌-◌, ◌<◌, ◌≤◌, List, [], ◌∷◌, ◌++◌, length, take, drop, get_or, refl, sym, ap, ◌∙◌, subst, append_assoc, add-one, arith}
+use Rattle.std.proofs.Common.{◌≡◌, ℕ, zero, suc, ◌+◌, ◌<◌, ◌≤◌, List, [], ◌∷◌, ◌++◌, length, drop, get_or, refl, sym, ap, ◌∙◌, subst, append_assoc, add-one, arith}
 use Rattle.std.proofs.lemmas.List.{append-nil, drop_more, drop_all}
 use Rattle.sdc_model.specs.declared.clocks.Clock.{Clock}
 use Rattle.sdc_model.specs.declared.clocks.Wave.{Wave}
@@ -7,7 +7,6 @@ use Rattle.sdc_model.specs.declared.clocks.Form.{Form}
 use Rattle.sdc_model.specs.declared.clocks.Form.TheVariants.{Primary, Generated}
 use Rattle.sdc_model.specs.declared.views.Arrivals.{Arrivals}
 use Rattle.sdc_model.specs.declared.views.View.{View}
-use Rattle.sdc_model.specs.declared.identities.Definition.{Definition}
 use Rattle.sdc_model.specs.declared.identities.Standing.{Standing}
 use Rattle.sdc_model.specs.ClockIdentity.{merged_form, definition_of, standings_from, mode_standings}
 use Rattle.sdc_model.specs.PlainViews.{IsPrimary, ArePrimary}

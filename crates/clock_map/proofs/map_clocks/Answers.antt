@@ -1,4 +1,4 @@
-use Rattle.std.proofs.Common.{◌≡◌, ◌∙◌, ◌≤◌, ◌^◌, length, ℕ, arith, rules, sym, ap, subst}
+use Rattle.std.proofs.Common.{◌≡◌, ◌∙◌, length, arith, sym, ap}
 use Rattle.clock_map.proofs.PlainMaps.{is_map, length-standings_of, length-identities_of}
 use Rattle.sdc_model.specs.PlainViews.{clock_count}
 use Rattle.clock_map.proofs.map_clocks.Goals as goal

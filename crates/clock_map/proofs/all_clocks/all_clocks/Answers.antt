@@ -1,6 +1,6 @@
-use Rattle.std.proofs.Common.{◌≡◌, ◌∙◌, ◌<◌, ◌++◌, length, get_or, arith, rules, refl, sym, ap}
+use Rattle.std.proofs.Common.{◌∙◌, ◌++◌, ap}
 use Rattle.sdc_model.specs.ClockIdentity.{identities_among}
-use Rattle.clock_map.proofs.ClockLists.{primary_mode, waves_of_mode, clocks_step, clocks_done}
+use Rattle.clock_map.proofs.ClockLists.{primary_mode, waves_of_mode, clocks_step}
 use Rattle.clock_map.proofs.all_clocks.all_clocks.Goals as goal
 
 pub mode_standings-requires-clause-primary : goal.mode_standings-requires-clause-primary

@@ -1,7 +1,6 @@
-use Rattle.std.proofs.Common.{◌≡◌, ◌∙◌, ◌<◌, ◌++◌, ◌∷◌, [], ◌+◌, ◌-◌, List, true, false, arith, rules, refl, sym, ap, subst}
+use Rattle.std.proofs.Common.{◌≡◌, ◌∙◌, ◌++◌, sym, ap}
 use Rattle.std.proofs.lemmas.List.{append-nil}
-use Rattle.sdc_model.specs.declared.clocks.Pair.{Pair}
-use Rattle.clock_map.specs.Timings.{row_from, row, pair_unless}
+use Rattle.clock_map.specs.Timings.{pair_unless}
 use Rattle.clock_map.proofs.PairRows.{row_step}
 use Rattle.clock_map.proofs.exclusive.add_row.Goals as goal
 use Rattle.clock_map.proofs.exclusive.add_row.Goals.{then-not-are_timed+in_ok-push, else-not-are_timed}

@@ -1,4 +1,4 @@
-use Rattle.std.proofs.Common.{◌≡◌, ◌∙◌, ◌<◌, ◌≤◌, ℕ, length, get_or, take, List, true, false, arith, rules, refl, sym, ap, subst}
+use Rattle.std.proofs.Common.{◌≤◌, length, get_or, List, ap, subst}
 use Rattle.std.proofs.lemmas.List.{take_all}
 use Rattle.sdc_model.specs.declared.clocks.Pair.{Pair}
 use Rattle.clock_map.specs.Timings.{HoldsPairs}

@@ -1,4 +1,4 @@
-use Rattle.std.proofs.Common.{◌≡◌, ◌∙◌, ◌<◌, ◌≤◌, ◌+◌, ℕ, length, get_or, take, List, arith, rules, refl, sym, ap, subst}
+use Rattle.std.proofs.Common.{◌<◌, ◌≤◌, length, arith}
 use Rattle.clock_map.proofs.TimingLists.{apart_at, timings_step, timings_done}
 use Rattle.clock_map.proofs.exclusive.timings_of.Goals as goal
 

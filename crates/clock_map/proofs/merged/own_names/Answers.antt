@@ -1,5 +1,4 @@
-use Rattle.std.proofs.Common.{◌≡◌, ◌<◌, ◌≤◌, ℕ, List, length, take, get_or, ◌∙◌, arith, rules, refl, sym, ap, subst, []}
-use Rattle.std.specs.Prelude.{◌↔◌}
+use Rattle.std.proofs.Common.{◌≤◌, ℕ, List, length, subst}
 use Rattle.std.proofs.lemmas.List.{take_all}
 use Rattle.sdc_model.specs.declared.identities.Standing.{Standing}
 use Rattle.sdc_model.specs.ClockIdentity.{names_of}

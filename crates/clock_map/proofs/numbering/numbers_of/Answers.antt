@@ -1,4 +1,4 @@
-use Rattle.std.proofs.Common.{◌≡◌, ◌<◌, ◌≤◌, ◌+◌, length, arith, rules, refl, sym, ap, get_or}
+use Rattle.std.proofs.Common.{◌<◌, ◌≤◌, length, arith}
 use Rattle.clock_map.proofs.NumberLists.{knows_step, knows_few, knows_done}
 use Rattle.clock_map.proofs.numbering.numbers_of.Goals as goal
 

@@ -1,9 +1,8 @@
 -- Each of the two searches counts, in a list that is sorted by what it compares.
-use Rattle.std.proofs.Common.{◌≡◌, ◌∙◌, ◌+◌, ◌-◌, ◌≤◌, ℕ, length, arith, rules, refl, sym, ap}
+use Rattle.std.proofs.Common.{◌≡◌, arith, rules}
 use Rattle.std.specs.List.{count_by}
 use Rattle.std.specs.Ordering.{is_lt}
 use Rattle.std.proofs.lemmas.List.Sorted.{IsPartitionPoint-from_clause}
-use Rattle.sdc_model.specs.ClockIdentity.{rank_among}
 use Rattle.clock_map.proofs.RankLists.{standing_cmp, definition_cmp, standing_total, definition_total, parted, sorted_by_definition, point_counts, rank_splits}
 use Rattle.clock_map.proofs.ranks.rank_in.Goals as goal
 use Rattle.clock_map.proofs.ranks.rank_in.Goals.{After-partition_point-of_less}

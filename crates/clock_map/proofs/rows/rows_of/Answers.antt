@@ -1,4 +1,4 @@
-use Rattle.std.proofs.Common.{◌≡◌, ◌∙◌, arith, rules, refl, sym, ap, ◌++◌, ◌∷◌, []}
+use Rattle.std.proofs.Common.{◌∙◌}
 use Rattle.clock_map.proofs.RowLists.{rows_step}
 use Rattle.clock_map.proofs.rows.rows_of.Goals as goal
 

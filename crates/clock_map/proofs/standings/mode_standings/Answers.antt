@@ -1,7 +1,6 @@
-use Rattle.std.proofs.Common.{◌≡◌, ◌∙◌, ◌<◌, arith, rules, refl, sym, ap, ◌++◌, ◌∷◌, [], length, get_or}
-use Rattle.sdc_model.specs.declared.clocks.Clock.{Clock}
+use Rattle.std.proofs.Common.{◌≡◌, ◌<◌, ap, length, get_or}
 use Rattle.sdc_model.specs.declared.clocks.Wave.{Wave}
-use Rattle.clock_map.proofs.StandingLists.{standings_step, standings_done, plain_standing}
+use Rattle.clock_map.proofs.StandingLists.{standings_step, plain_standing}
 use Rattle.clock_map.proofs.standings.mode_standings.Goals as goal
 
 pub loop-place-preserved : goal.loop-place-preserved
