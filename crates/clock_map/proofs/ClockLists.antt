@@ -1,5 +1,5 @@
 -- The clocks of all modes, none of them generated, one mode behind the other.
-use Rattle.std.proofs.Common.{◌≡◌, ℕ, zero, suc, ◌+◌, ◌<◌, ◌≤◌, List, [], ◌∷◌, ◌++◌, length, drop, get_or, refl, sym, ap, ◌∙◌, subst, append_assoc, arith}
+use Rattle.std.proofs.Common.{◌≡◌, ℕ, zero, suc, ◌+◌, ◌<◌, ◌≤◌, List, [], ◌∷◌, ◌++◌, length, drop, get_or, sym, ap, ◌∙◌, subst, append_assoc, arith}
 use Rattle.std.proofs.lemmas.List.{append-nil, drop_more, drop_all}
 use Rattle.sdc_model.specs.declared.views.View.{View}
 use Rattle.sdc_model.specs.declared.identities.Standing.{Standing}
@@ -39,14 +39,15 @@ clocks_step views i view standings standings' identities identities' within is s
     let left : drop i views ≡ view ∷ drop (i + 1) views = drop_more views i view within ∙ ap (λ first. first ∷ drop (i + 1) views) (sym is) in
     record {
       standing = part_more standings standings' (mode_standings [] view) _ (standings_of (drop i views) []) _
-        (ap (λ vs. standings_of vs []) left) standings_is known.standing;
+          (ap (λ vs. standings_of vs []) left) standings_is known.standing;
       identity = part_more identities identities' (identities_among (mode_standings [] view)) _ (identities_of (drop i views) []) _
-        (ap (λ vs. identities_of vs []) left) identities_is known.identity;
+          (ap (λ vs. identities_of vs []) left) identities_is known.identity;
     }
 
 pub clocks_done : (views : List View) (i : ℕ) (standings : List Standing) (identities : List Identity) → length views ≤ i
     → ClocksSoFar views i standings identities → (standings ≡ standings_of views []) × (identities ≡ identities_of views [])
 clocks_done views i standings identities all known =
-    let left : drop i views ≡ [] = drop_all i views all in
-    (sym (append-nil standings) ∙ ap (λ vs. standings ++ standings_of vs []) (sym left) ∙ known.standing,
-     sym (append-nil identities) ∙ ap (λ vs. identities ++ identities_of vs []) (sym left) ∙ known.identity)
+    let left : drop i views ≡ [] = drop_all i views all in (
+      sym (append-nil standings) ∙ ap (λ vs. standings ++ standings_of vs []) (sym left) ∙ known.standing,
+      sym (append-nil identities) ∙ ap (λ vs. identities ++ identities_of vs []) (sym left) ∙ known.identity,
+    )

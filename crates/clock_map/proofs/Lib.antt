@@ -8,3 +8,11 @@ pub mod NameLists
 pub mod NameSets
 pub mod MergedLists
 pub mod PlainMaps
+pub mod PairRows
+pub mod PairSets
+pub mod PlaceLists
+pub mod TimingLists
+pub mod ExclusiveLists
+pub mod PairOrder
+pub mod LawLists
+pub mod SharedClocks

@@ -1,17 +1,17 @@
 -- The merged clocks so far: each is made of its first clock, and the numbers that are left go on where they end.
-use Rattle.std.proofs.Common.{◌≡◌, ℕ, zero, suc, ◌+◌, ◌-◌, ◌<◌, ◌≤◌, ◌≢◌, List, [], ◌∷◌, ◌++◌, length, take, drop, map, get_or, Some, None, refl, sym, ap, ◌∙◌, subst, inl, inr, arith, add-one}
-use Rattle.std.specs.Prelude.{◌⊎◌, ◌↔◌, slice_get}
-use Rattle.std.specs.List.{All, Contains}
+use Rattle.std.proofs.Common.{◌≡◌, ℕ, suc, ◌+◌, ◌<◌, ◌≤◌, ◌≢◌, List, [], ◌∷◌, ◌++◌, length, take, drop, map, get_or, Some, refl, sym, ap, ◌∙◌, subst, inl, inr, arith, add-one}
+use Rattle.std.specs.Prelude.{◌⊎◌, slice_get}
+use Rattle.std.specs.List.{Contains}
 use Rattle.std.proofs.lemmas.Bool.{cases_lt}
-use Rattle.std.proofs.lemmas.List.{drop_more, drop_all, length_push, take-append-le, take_at, map_push}
+use Rattle.std.proofs.lemmas.List.{drop_more, length_push, take-append-le, take_at, map_push}
 use Rattle.std.proofs.lemmas.Option.{slice_get_within, slice_get-get_or, slice_get_read}
 use Rattle.sdc_model.specs.declared.clocks.Clock.{Clock}
 use Rattle.sdc_model.specs.declared.clocks.Wave.{Wave}
 use Rattle.sdc_model.specs.declared.identities.Standing.{Standing}
-use Rattle.sdc_model.specs.ClockIdentity.{names_of, clock_with, IsMergedName, IsFirstAt, IsMerged}
+use Rattle.sdc_model.specs.ClockIdentity.{names_of, clock_with, IsMergedName, IsMerged}
 use Rattle.clock_map.specs.declared.merged.Merged.{Merged}
 use Rattle.clock_map.specs.Numbering.{RisesTo}
-use Rattle.clock_map.specs.MergedClocks.{HaveSameNames, HasOneMore, AddsMerged, Rises, AreMerged}
+use Rattle.clock_map.specs.MergedClocks.{HaveSameNames, AddsMerged, Rises, AreMerged}
 use Rattle.clock_map.proofs.NumberLists.{get_push_cases}
 use Rattle.clock_map.proofs.NameSets.{same_more, name_transfers}
 
@@ -39,8 +39,10 @@ nothing_merged standings numbers merged clocks waves names rises = record {
   rest = subst (λ (cs : List Clock). RisesTo (length cs) numbers rises.0) (sym clocks) rises.1;
   below = λ p n within e. absurd (omega arith);
   long = ap length waves ∙ sym (ap length clocks);
-  names = λ name. (λ h. subst (λ (cs : List Clock). Contains (clock_names cs) name) (sym clocks) (subst (λ (ns : List (List ℕ)). Contains ns name) names h),
-                   λ h. subst (λ (ns : List (List ℕ)). Contains ns name) (sym names) (subst (λ (cs : List Clock). Contains (clock_names cs) name) clocks h));
+  names = λ name. (
+    λ h. subst (λ (cs : List Clock). Contains (clock_names cs) name) (sym clocks) (subst (λ (ns : List (List ℕ)). Contains ns name) names h),
+    λ h. subst (λ (ns : List (List ℕ)). Contains ns name) (sym names) (subst (λ (cs : List Clock). Contains (clock_names cs) name) clocks h),
+  );
   all = λ k clock wave e f. let none : slice_get [] k ≡ Some clock = sym (ap (λ cs. slice_get cs k) clocks) ∙ e in cc;
 }
 
@@ -70,7 +72,7 @@ pub known_step : (standings : List Standing) (numbers : List ℕ) (i number : �
 known_step standings numbers i number merged within is other known =
     let at = slice_get_read numbers (length numbers) i number refl within is in
     elim (number_cases (length merged.clocks) numbers i number known.last within is known.rest) [
-      inl old ↦ record {
+      | inl old ↦ record {
         last = known.last;
         rest = old.1;
         below = below_next numbers i number (length merged.clocks) at old.0 known.below;
@@ -78,7 +80,8 @@ known_step standings numbers i number merged within is other known =
         names = known.names;
         all = known.all;
       }
-    | inr new ↦ absurd (other new.0) ]
+      | inr new ↦ absurd (other new.0)
+    ]
 
 -- merged clocks of which one was added
 grown : (standings : List Standing) (numbers : List ℕ) (before : List Clock) (waves : List Wave) (clock : Clock) (wave : Wave) → length waves ≡ length before
@@ -86,23 +89,26 @@ grown : (standings : List Standing) (numbers : List ℕ) (before : List Clock) (
     → EachMerged standings numbers (before ++ clock ∷ []) (waves ++ wave ∷ [])
 grown standings numbers before waves clock wave long all new k c w e f =
     elim (get_push_cases before clock k c e) [
-      inl old ↦ elim (get_push_cases waves wave k w f) [
-          inl old' ↦
+      | inl old ↦ elim (get_push_cases waves wave k w f) [
+        | inl old' ↦
             let within = slice_get_within before k c old in
             let front : take k (before ++ clock ∷ []) ≡ take k before = take-append-le k before (clock ∷ []) (omega arith) in
             subst (λ (cs : List Clock). IsMerged standings numbers (clock_names cs) k c w) (sym front) (all k c w old old')
-        | inr new' ↦ let within = slice_get_within before k c old in let at = new'.0 in absurd (omega arith) ]
-    | inr here ↦ elim (get_push_cases waves wave k w f) [
-          inl old' ↦ let within = slice_get_within waves k w old' in let at = here.0 in absurd (omega arith)
+        | inr new' ↦ let within = slice_get_within before k c old in let at = new'.0 in absurd (omega arith)
+      ]
+      | inr here ↦ elim (get_push_cases waves wave k w f) [
+        | inl old' ↦ let within = slice_get_within waves k w old' in let at = here.0 in absurd (omega arith)
         | inr here' ↦
             let front : take k (before ++ clock ∷ []) ≡ before = take_at before (clock ∷ []) k (sym here.0) in
             let with_clock : IsMerged standings numbers (clock_names before) (length before) c wave =
-              subst (λ (x : Clock). IsMerged standings numbers (clock_names before) (length before) x wave) here.1 new in
+            subst (λ (x : Clock). IsMerged standings numbers (clock_names before) (length before) x wave) here.1 new in
             let with_wave : IsMerged standings numbers (clock_names before) (length before) c w =
-              subst (λ (x : Wave). IsMerged standings numbers (clock_names before) (length before) c x) here'.1 with_clock in
+            subst (λ (x : Wave). IsMerged standings numbers (clock_names before) (length before) c x) here'.1 with_clock in
             let with_place : IsMerged standings numbers (clock_names before) k c w =
-              subst (λ (n : ℕ). IsMerged standings numbers (clock_names before) n c w) (sym here.0) with_wave in
-            subst (λ (cs : List Clock). IsMerged standings numbers (clock_names cs) k c w) (sym front) with_place ] ]
+            subst (λ (n : ℕ). IsMerged standings numbers (clock_names before) n c w) (sym here.0) with_wave in
+            subst (λ (cs : List Clock). IsMerged standings numbers (clock_names cs) k c w) (sym front) with_place
+      ]
+    ]
 
 -- the first clock of a new number
 new_clock : (standings : List Standing) (numbers : List ℕ) (own earlier set : List (List ℕ)) (i k : ℕ) (first : Standing) (name : List ℕ)
@@ -133,21 +139,22 @@ new_step standings numbers own i number first merged merged' beside within is fi
     let long = known.long in
     let named : clock_names merged'.clocks ≡ clock_names merged.clocks ++ adds.name ∷ [] = ap clock_names adds.clocks ∙ map_push (λ c. c.name) merged.clocks clock in
     let made = new_clock standings numbers own (clock_names merged.clocks) merged.names.keys i (length merged.clocks) first adds.name
-      (at ∙ ap Some new) stands known.below same known.names adds.name_is in
+    (at ∙ ap Some new) stands known.below same known.names adds.name_is in
     let each = grown standings numbers merged.clocks merged.waves clock first.definition.wave known.long known.all made in
     let each_wave : EachMerged standings numbers (merged.clocks ++ clock ∷ []) merged'.waves =
-      subst (λ (ws : List Wave). EachMerged standings numbers (merged.clocks ++ clock ∷ []) ws) (sym adds.waves) each in
+    subst (λ (ws : List Wave). EachMerged standings numbers (merged.clocks ++ clock ∷ []) ws) (sym adds.waves) each in
     elim (number_cases (length merged.clocks) numbers i number known.last within is known.rest) [
-      inl old ↦ absurd (omega (arith, old.0))
-    | inr next ↦ record {
+      | inl old ↦ absurd (omega (arith, old.0))
+      | inr next ↦ record {
         last = known.last;
         rest = subst (λ (n : ℕ). RisesTo n (drop (i + 1) numbers) known.last) (sym (longer ∙ add-one (length merged.clocks))) next.1;
         below = below_next numbers i number (length merged'.clocks) at (omega arith) (λ p n low e. let h = known.below p n low e in omega arith);
         long = omega arith;
         names = subst (λ (ns : List (List ℕ)). HaveSameNames merged'.names.keys ns) (sym named)
-          (same_more merged.names.keys merged'.names.keys (clock_names merged.clocks) adds.name adds.names known.names);
+            (same_more merged.names.keys merged'.names.keys (clock_names merged.clocks) adds.name adds.names known.names);
         all = subst (λ (cs : List Clock). EachMerged standings numbers cs merged'.waves) (sym adds.clocks) each_wave;
-      } ]
+      }
+    ]
 
 pub merged_done : (standings : List Standing) (numbers : List ℕ) (i : ℕ) (merged : Merged) → length numbers ≤ i
     → MergedSoFar standings numbers i merged → AreMerged standings numbers merged.clocks merged.waves

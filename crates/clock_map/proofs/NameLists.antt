@@ -1,5 +1,5 @@
 -- Names with `_k`: no two of them are the same, so that some are free.
-use Rattle.std.proofs.Common.{◌≡◌, ℕ, zero, suc, ◌+◌, ◌-◌, ◌<◌, ◌≤◌, ◌^◌, Bool, true, false, List, [], ◌∷◌, ◌++◌, length, refl, sym, ap, ◌∙◌, subst, inl, inr, arith}
+use Rattle.std.proofs.Common.{◌≡◌, ℕ, zero, suc, ◌+◌, ◌<◌, ◌≤◌, ◌^◌, Bool, true, false, List, [], ◌∷◌, ◌++◌, length, refl, sym, ap, ◌∙◌, subst, inl, inr, arith}
 use Rattle.std.specs.Prelude.{◌⊎◌, ◌||◌, codes, IsTrue}
 use Rattle.std.specs.BTreeSet.{BTreeSet, contains}
 use Rattle.std.specs.Fmt.{decimal}
@@ -13,7 +13,6 @@ use Rattle.std.proofs.lemmas.Cmp.{nat_list_cmp_total, eq_by_cmp_equiv}
 use Rattle.std.proofs.lemmas.Fmt.{decimal_injective}
 use Rattle.std.proofs.lemmas.List.{append_cancel_left, length-append}
 use Rattle.std.proofs.lemmas.List.Elements.{Contains-append_left, Contains-append_right}
-use Rattle.std.proofs.lemmas.Map.Keys.{IsDistinct-cons}
 use Rattle.std.proofs.lemmas.Map.Lookups.{exact_bytes}
 use Rattle.std.proofs.lemmas.Map.Made.{length-le_from_is_member}
 use Rattle.std.proofs.lemmas.Map.Views.{tells_apart, list_any-from_Contains, btree_set_contains_iff}
@@ -29,7 +28,7 @@ same_laws = eq_by_cmp_equiv nat_list_cmp_total
 numbers_differ : (name : List ℕ) (j k : ℕ) → j < 2 ^ 64 → k < 2 ^ 64 → numbered_name name j ≡ numbered_name name k → j ≡ k
 numbers_differ name j k small small' e =
     decimal_injective j k small small'
-      (append_cancel_left (codes "_") (decimal j) (decimal k) (append_cancel_left name (codes "_" ++ decimal j) (codes "_" ++ decimal k) e))
+    (append_cancel_left (codes "_") (decimal j) (decimal k) (append_cancel_left name (codes "_" ++ decimal j) (codes "_" ++ decimal k) e))
 
 -- the names with `_k` down to `_1`
 names_to : List ℕ → ℕ → List (List ℕ)
@@ -46,10 +45,10 @@ unfolding names_to
 none_same name k zero small below = tt
 none_same name k (suc j) small below =
     (differs (same (numbered_name name k) (numbered_name name (suc j))) refl, none_same name k j small (omega arith)) where
-  differs : (b : Bool) → same (numbered_name name k) (numbered_name name (suc j)) ≡ b → b ≡ false
-  differs false e = refl
-  differs true e =
-      let equal = numbers_differ name k (suc j) small (omega arith) (tells_apart exact_bytes _ _ e) in absurd (omega arith)
+      differs : (b : Bool) → same (numbered_name name k) (numbered_name name (suc j)) ≡ b → b ≡ false
+      differs false e = refl
+      differs true e =
+          let equal = numbers_differ name k (suc j) small (omega arith) (tells_apart exact_bytes _ _ e) in absurd (omega arith)
 
 distinct : (name : List ℕ) (k : ℕ) → k < 2 ^ 64 → IsDistinct same (names_to name k)
 unfolding names_to IsDistinct
@@ -82,8 +81,8 @@ unfolding names_to
 members own earlier name zero taken q e = absurd (false≢true e)
 members own earlier name (suc k) taken q e =
     one_member own earlier q (numbered_name name (suc k)) (same q (numbered_name name (suc k))) (is_member same (names_to name k) q)
-      (taken (suc k) (omega arith) (omega arith)) refl
-      (members own earlier name k (λ j low high. taken j low (omega arith)) q) e
+    (taken (suc k) (omega arith) (omega arith)) refl
+    (members own earlier name k (λ j low high. taken j low (omega arith)) q) e
 
 -- no more names are taken than there are
 pub few_taken : (own earlier : List (List ℕ)) (name : List ℕ) (k : ℕ) → k < 2 ^ 64 → TakenBelow own earlier name (suc k) → k ≤ length own + length earlier
@@ -128,8 +127,10 @@ held_first own earlier name b e t = (λ h. inl ((held own name b e).0 h), λ _. 
 pub held_second : (own earlier : BTreeSet (List ℕ)) (name : List ℕ) (a b : Bool) → a ≡ contains (slice_cmp nat_cmp) own name → a ≡ false
     → b ≡ contains (slice_cmp nat_cmp) earlier name
     → (IsTrue b → IsTaken own.keys earlier.keys name) × (IsTaken own.keys earlier.keys name → IsTrue b)
-held_second own earlier name a b e f g =
-    (λ h. inr ((held earlier name b g).0 h),
-     λ taken. elim taken [
-        inl h ↦ absurd (false≢true (sym f ∙ (held own name a e).1 h))
-      | inr h ↦ (held earlier name b g).1 h ])
+held_second own earlier name a b e f g = (
+  λ h. inr ((held earlier name b g).0 h),
+  λ taken. elim taken [
+    | inl h ↦ absurd (false≢true (sym f ∙ (held own name a e).1 h))
+    | inr h ↦ (held earlier name b g).1 h
+  ],
+)

@@ -1,8 +1,8 @@
 -- The parts of a clock map put together, for modes without generated clocks.
-use Rattle.std.proofs.Common.{◌≡◌, ℕ, zero, suc, ◌+◌, ◌-◌, ◌<◌, ◌≤◌, List, [], ◌∷◌, ◌++◌, length, take, drop, map, get_or, Option, Some, None, refl, sym, ap, ◌∙◌, subst, inl, inr, arith}
-use Rattle.std.specs.Prelude.{◌⊎◌, ◌↔◌, slice_get}
+use Rattle.std.proofs.Common.{◌≡◌, ℕ, zero, suc, ◌-◌, ◌<◌, ◌≤◌, List, [], ◌∷◌, ◌++◌, length, Some, None, refl, sym, ap, ◌∙◌, subst, inl, inr, arith}
+use Rattle.std.specs.Prelude.{slice_get}
 use Rattle.std.specs.Option.{option_and_then}
-use Rattle.std.specs.List.{All, AllZip, concat}
+use Rattle.std.specs.List.{AllZip, concat}
 use Rattle.std.proofs.lemmas.Bool.{cases_lt}
 use Rattle.std.proofs.lemmas.List.{length-append, length-map}
 use Rattle.std.proofs.lemmas.Option.{slice_get_within}
@@ -15,7 +15,7 @@ use Rattle.sdc_model.specs.declared.views.View.{View}
 use Rattle.sdc_model.specs.declared.views.ClockMap.{ClockMap}
 use Rattle.sdc_model.specs.declared.identities.Standing.{Standing}
 use Rattle.sdc_model.specs.declared.identities.Identity.{Identity}
-use Rattle.sdc_model.specs.ClockIdentity.{merged_form, definition_of, standings_from, mode_standings, identities_among, identity_among, standings_of, identities_of, master_of, master_at, HasDepth, HasDepthAt, StandsAhead, IsFirstAt, IsMerged, IsClockMap}
+use Rattle.sdc_model.specs.ClockIdentity.{merged_form, definition_of, standings_from, mode_standings, identities_among, identity_among, standings_of, identities_of, master_of, HasDepthAt, IsFirstAt, IsClockMap}
 use Rattle.sdc_model.specs.PlainViews.{IsPrimary, ArePrimary, ModesArePrimary, HaveWaves, clock_count}
 use Rattle.clock_map.specs.Numbering.{RisesTo, AreNumbers}
 use Rattle.clock_map.specs.MergedClocks.{AreMerged}
@@ -23,13 +23,13 @@ use Rattle.clock_map.proofs.StandingLists.{form_stays}
 
 -- ---- primary clocks are the same under every map
 
-from_plain : (numbers : List ℕ) (arrivals : Arrivals) (place : ℕ) (clocks : List Clock) (waves : List Wave) → ArePrimary clocks
+pub from_plain : (numbers : List ℕ) (arrivals : Arrivals) (place : ℕ) (clocks : List Clock) (waves : List Wave) → ArePrimary clocks
     → standings_from numbers arrivals place clocks waves ≡ standings_from [] arrivals place clocks waves
 from_plain numbers arrivals place [] waves primary = refl
 from_plain numbers arrivals place (clock ∷ clocks) [] primary = refl
 from_plain numbers arrivals place (clock ∷ clocks) (wave ∷ waves) primary =
     let form : merged_form numbers arrivals place clock.form ≡ merged_form [] arrivals place clock.form =
-      form_stays numbers arrivals place clock.form primary.0 ∙ sym (form_stays [] arrivals place clock.form primary.0) in
+    form_stays numbers arrivals place clock.form primary.0 ∙ sym (form_stays [] arrivals place clock.form primary.0) in
     let rest = from_plain numbers arrivals (suc place) clocks waves primary.1 in
     λ i. record { definition = definition_of (form i) clock wave; name = clock.name; place = place } ∷ rest i
 
@@ -51,7 +51,7 @@ identities_plain (view ∷ views) (numbers ∷ maps) primary =
 
 -- ---- how many they are
 
-length-from : (numbers : List ℕ) (arrivals : Arrivals) (place : ℕ) (clocks : List Clock) (waves : List Wave) → length waves ≡ length clocks
+pub length-from : (numbers : List ℕ) (arrivals : Arrivals) (place : ℕ) (clocks : List Clock) (waves : List Wave) → length waves ≡ length clocks
     → length (standings_from numbers arrivals place clocks waves) ≡ length clocks
 length-from numbers arrivals place [] waves same = refl
 length-from numbers arrivals place (clock ∷ clocks) [] same = absurd (omega arith)
@@ -90,8 +90,9 @@ pub depth_is_zero : (views : List View) (at : ℕ) → ModesArePrimary views →
 depth_is_zero [] at primary within = absurd (omega arith)
 depth_is_zero (view ∷ views) at primary within =
     elim (cases_lt at (length view.mode.clocks)) [
-      inl less ↦ inl (less, no_master_among view.arrivals at view.mode.clocks at primary.0)
-    | inr more ↦ inr (more, depth_is_zero views (at - length view.mode.clocks) primary.1 (omega arith)) ]
+      | inl less ↦ inl (less, no_master_among view.arrivals at view.mode.clocks at primary.0)
+      | inr more ↦ inr (more, depth_is_zero views (at - length view.mode.clocks) primary.1 (omega arith))
+    ]
 
 -- lesser numbers stand before a number
 lesser_before : (next : ℕ) (numbers : List ℕ) (last k l q : ℕ) → RisesTo next numbers last → next ≤ k → k < l → slice_get numbers q ≡ Some l
@@ -102,17 +103,20 @@ lesser_before next (number ∷ numbers) last k l zero rises known less at =
     elim rises [ inl old ↦ absurd (omega (arith, old.0)) | inr new ↦ absurd (omega (arith, new.0)) ]
 lesser_before next (number ∷ numbers) last k l (suc q) rises known less at =
     elim rises [
-      inl old ↦ let h = lesser_before next numbers last k l q old.1 known less at in (suc h.0, omega (arith, h.1), h.2)
-    | inr new ↦ elim (cases_lt next k) [
-          inl below ↦ let h = lesser_before (suc next) numbers last k l q new.1 (omega arith) less at in (suc h.0, omega (arith, h.1), h.2)
-        | inr above ↦ let is : number ≡ k = omega (arith, new.0) in (0, omega arith, ap Some is) ] ]
+      | inl old ↦ let h = lesser_before next numbers last k l q old.1 known less at in (suc h.0, omega (arith, h.1), h.2)
+      | inr new ↦ elim (cases_lt next k) [
+        | inl below ↦ let h = lesser_before (suc next) numbers last k l q new.1 (omega arith) less at in (suc h.0, omega (arith, h.1), h.2)
+        | inr above ↦ let is : number ≡ k = omega (arith, new.0) in (0, omega arith, ap Some is)
+      ]
+    ]
 
 firsts_rise : (numbers : List ℕ) (last k l p q : ℕ) → RisesTo 0 numbers last → k < l → IsFirstAt numbers k p → IsFirstAt numbers l q → p < q
 firsts_rise numbers last k l p q rises less first second =
     let before = lesser_before 0 numbers last k l q rises (omega arith) less second.is in
     elim (cases_lt before.0 p) [
-      inl early ↦ absurd (first.none_before before.0 early before.2)
-    | inr late ↦ omega (arith, before.1) ]
+      | inl early ↦ absurd (first.none_before before.0 early before.2)
+      | inr late ↦ omega (arith, before.1)
+    ]
 
 -- ---- the whole map
 
@@ -131,12 +135,16 @@ is_map views standings identities numbers answer primary waves standings_is iden
       numbered = rw all merged.numbered;
       one = rw (all, ← ids) numbered.one;
       order = λ k l p q less first second.
-        let first' : IsFirstAt numbers k p = subst (λ (ns : List ℕ). IsFirstAt ns k p) all first in
-        let second' : IsFirstAt numbers l q = subst (λ (ns : List ℕ). IsFirstAt ns l q) all second in
-        let p_within = slice_get_within numbers p k first'.is in
-        let q_within = slice_get_within numbers q l second'.is in
-        (0, 0, depth_is_zero views p primary (omega arith), depth_is_zero views q primary (omega arith),
-          inr (refl, firsts_rise numbers numbered.last k l p q numbered.rises less first' second'));
+          let first' : IsFirstAt numbers k p = subst (λ (ns : List ℕ). IsFirstAt ns k p) all first in
+          let second' : IsFirstAt numbers l q = subst (λ (ns : List ℕ). IsFirstAt ns l q) all second in
+          let p_within = slice_get_within numbers p k first'.is in
+          let q_within = slice_get_within numbers q l second'.is in (
+            0,
+            0,
+            depth_is_zero views p primary (omega arith),
+            depth_is_zero views q primary (omega arith),
+            inr (refl, firsts_rise numbers numbered.last k l p q numbered.rises less first' second'),
+          );
       waves = merged.long;
       merged = rw (all, ← stands) merged.merged;
     }

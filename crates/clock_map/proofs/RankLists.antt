@@ -1,11 +1,11 @@
 -- Counting in a sorted list: what stands ahead of a clock, and what of it has the clock's definition.
-use Rattle.std.proofs.Common.{◌≡◌, ℕ, zero, suc, ◌+◌, ◌-◌, ◌<◌, ◌≤◌, Bool, true, false, cond, ◌&&◌, List, [], ◌∷◌, ◌++◌, length, get_or, take, map, Ordering, refl, sym, ap, ◌∙◌, subst, arith}
+use Rattle.std.proofs.Common.{◌≡◌, ℕ, zero, suc, ◌+◌, ◌<◌, ◌≤◌, Bool, true, false, cond, ◌&&◌, List, [], ◌∷◌, ◌++◌, length, get_or, take, map, Ordering, refl, sym, ap, ◌∙◌, arith}
 use Rattle.std.specs.Ordering.{is_eq, is_lt, nat_cmp, ordering_then, ordering_index}
 use Rattle.std.specs.declared.cmp.Ordering.TheVariants.{Less, Equal, Greater}
 use Rattle.std.specs.Cmp.{IsTotalOrder}
 use Rattle.std.specs.Cmp.Lexicographic.{slice_cmp}
-use Rattle.std.specs.List.{count_by, sum_by, AllWithin}
-use Rattle.std.specs.List.Sorted.{IsSortedBy, IsSorted, IsPartitionedBy, IsPartitionPoint, IsPermutation}
+use Rattle.std.specs.List.{count_by}
+use Rattle.std.specs.List.Sorted.{IsSortedBy, IsSorted, IsPartitionedBy, IsPermutation}
 use Rattle.std.proofs.lemmas.List.Sorted.{searchable_from_sorted, sum_by-IsPermutation}
 use Rattle.std.proofs.lemmas.List.Sums.{sum_by-cons}
 use Rattle.std.proofs.lemmas.List.{map_more}
@@ -53,7 +53,7 @@ point_counts p (x ∷ xs) zero short before behind =
 point_counts p (x ∷ xs) (suc i) short before behind =
     let here : p x ≡ true = before 0 x (omega arith) in
     let rest : i ≡ count_by p xs = point_counts p xs i (omega arith)
-      (λ k d within. before (suc k) d (omega arith)) (λ k d from within. behind (suc k) d (omega arith) (omega arith)) in
+    (λ k d within. before (suc k) d (omega arith)) (λ k d from within. behind (suc k) d (omega arith) (omega arith)) in
     let step : count_by p (x ∷ xs) ≡ 1 + count_by p xs = count_more p x xs ∙ ap (λ b. cond b 1 0 + count_by p xs) here in
     omega arith
 
@@ -84,7 +84,7 @@ sorted_by_definition xs sorted k d low high =
     let a = get_or xs (k + 1) d in
     let b = get_or xs k d in
     first_decides (definition_cmp a.definition b.definition)
-      (ordering_then (slice_cmp nat_cmp a.name b.name) (nat_cmp a.place b.place)) (sorted k d low high)
+    (ordering_then (slice_cmp nat_cmp a.name b.name) (nat_cmp a.place b.place)) (sorted k d low high)
 
 -- ---- ranks
 
@@ -121,7 +121,7 @@ pub identities_step : (all sorted : List Standing) (i : ℕ) (clock : Standing) 
 identities_step all sorted i clock rank definition before after within is moved definition_is rank_is after_is known =
     let same : rank ≡ rank_among all clock = rank_is ∙ rank_stays all sorted clock moved in
     let identity : record { definition = definition; rank = rank } ≡ identity_among all clock =
-      λ j. record { definition = definition_is j; rank = same j } in
+    λ j. record { definition = definition_is j; rank = same j } in
     after_is
     ∙ ap (λ last. before ++ last ∷ []) identity
     ∙ ap (λ front. front ++ identity_among all clock ∷ []) known

@@ -1,5 +1,5 @@
 -- The clocks of modes without generated clocks, as ranks see them.
-use Rattle.std.proofs.Common.{◌≡◌, ℕ, zero, suc, ◌+◌, ◌-◌, ◌<◌, ◌≤◌, List, [], ◌∷◌, ◌++◌, length, take, drop, get_or, refl, sym, ap, ◌∙◌, subst, append_assoc, add-one, arith}
+use Rattle.std.proofs.Common.{◌≡◌, ℕ, zero, suc, ◌+◌, ◌<◌, ◌≤◌, List, [], ◌∷◌, ◌++◌, length, drop, get_or, refl, sym, ap, ◌∙◌, subst, append_assoc, add-one, arith}
 use Rattle.std.proofs.lemmas.List.{append-nil, drop_more, drop_all}
 use Rattle.sdc_model.specs.declared.clocks.Clock.{Clock}
 use Rattle.sdc_model.specs.declared.clocks.Wave.{Wave}
@@ -7,7 +7,6 @@ use Rattle.sdc_model.specs.declared.clocks.Form.{Form}
 use Rattle.sdc_model.specs.declared.clocks.Form.TheVariants.{Primary, Generated}
 use Rattle.sdc_model.specs.declared.views.Arrivals.{Arrivals}
 use Rattle.sdc_model.specs.declared.views.View.{View}
-use Rattle.sdc_model.specs.declared.identities.Definition.{Definition}
 use Rattle.sdc_model.specs.declared.identities.Standing.{Standing}
 use Rattle.sdc_model.specs.ClockIdentity.{merged_form, definition_of, standings_from, mode_standings}
 use Rattle.sdc_model.specs.PlainViews.{IsPrimary, ArePrimary}
@@ -43,9 +42,9 @@ front_stands view i clock wave none primary waves within clock_is wave_is =
     let form = form_stays [] view.arrivals i clock.form p in
     let within_waves : i < length view.waves = omega arith in
     let e : drop i view.mode.clocks ≡ clock ∷ drop (i + 1) view.mode.clocks =
-      drop_more view.mode.clocks i clock within ∙ ap (λ c. c ∷ drop (i + 1) view.mode.clocks) (sym clock_is) in
+    drop_more view.mode.clocks i clock within ∙ ap (λ c. c ∷ drop (i + 1) view.mode.clocks) (sym clock_is) in
     let f : drop i view.waves ≡ wave ∷ drop (i + 1) view.waves =
-      drop_more view.waves i none within_waves ∙ ap (λ w. w ∷ drop (i + 1) view.waves) (sym wave_is) in
+    drop_more view.waves i none within_waves ∙ ap (λ w. w ∷ drop (i + 1) view.waves) (sym wave_is) in
     rw (e, f, form, add-one i) refl
 
 pub standings_step : (view : View) (i : ℕ) (clock : Clock) (wave none : Wave) (standings after : List Standing) (standing : Standing)

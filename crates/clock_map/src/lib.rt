@@ -22,7 +22,10 @@ ghost use Rattle.sdc_model.specs.ClockIdentity.{IsClockMap};
 ghost use Rattle.sdc_model.specs.PlainViews.{ModesArePrimary, HaveWaves, clock_count};
 
 pub use exclusive::exclusive_pairs;
-
+pub use map_laws::{
+    clocks_of_a_mode_are_apart, equal_modes_share_clocks, merged_clocks_are_clocks_of_modes,
+    merged_names_are_apart,
+};
 use sdc_base::{List, NoMemory};
 use sdc_model::{ClockMap, View};
 use std::alloc::Global;

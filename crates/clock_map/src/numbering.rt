@@ -10,10 +10,7 @@ use std::alloc::Global;
 use std::collections::BTreeMap;
 
 /// A number for each identity, the same for equal ones alone.
-pub(crate) fn numbers_of(
-    alloc: Global,
-    identities: &List<Identity>,
-) -> Result<List<u32>, NoMemory>
+pub(crate) fn numbers_of(alloc: Global, identities: &List<Identity>) -> Result<List<u32>, NoMemory>
     requires { length identities.now ≤ 2 ^ 32 }
     ensures { IfOk result (AreNumbers identities.now) }
 {

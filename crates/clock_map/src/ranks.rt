@@ -32,6 +32,9 @@ fn rank_in(sorted: &[Standing], standing: &Standing) -> usize
     ensures { result ≡ rank_among sorted.now standing.now }
 {
     let ahead = sorted.partition_point(|other| other.cmp(standing).is_lt());
-    let of_less = sorted.partition_point(|other| other.definition.cmp(&standing.definition).is_lt());
+    let of_less = sorted.partition_point(|other| other
+        .definition
+        .cmp(&standing.definition)
+        .is_lt());
     ahead - of_less
 }

@@ -1,7 +1,7 @@
 //! Clock maps whose values were worked out by hand.
 use super::*;
-use sdc_model::{Arrivals, Clock, Early, Form, Latency, Mode, Pair, Wave};
 use sdc_base::Text;
+use sdc_model::{Arrivals, Clock, Early, Form, Latency, Mode, Pair, Wave};
 
 const NONE: Early = Early { rise: 0, fall: 0 };
 
@@ -26,7 +26,11 @@ fn clock(alloc: Global, name: &str, period: i64) -> Result<Clock, NoMemory> {
 }
 
 fn wave(period: i64) -> Wave {
-    Wave { period, rise: 0, fall: period / 2 }
+    Wave {
+        period,
+        rise: 0,
+        fall: period / 2,
+    }
 }
 
 fn view(alloc: Global, named: &[(&str, i64)], exclusive: &[(u32, u32)]) -> Result<View, NoMemory> {
@@ -38,7 +42,10 @@ fn view(alloc: Global, named: &[(&str, i64)], exclusive: &[(u32, u32)]) -> Resul
     }
     let mut pairs = List::new(alloc);
     for (first, second) in exclusive {
-        pairs.push(Pair { first: *first, second: *second })?;
+        pairs.push(Pair {
+            first: *first,
+            second: *second,
+        })?;
     }
     Ok(View {
         mode: Mode {
@@ -52,7 +59,9 @@ fn view(alloc: Global, named: &[(&str, i64)], exclusive: &[(u32, u32)]) -> Resul
             notes: List::new(alloc),
         },
         waves,
-        arrivals: Arrivals { at: List::new(alloc) },
+        arrivals: Arrivals {
+            at: List::new(alloc),
+        },
         clock_map: List::new(alloc),
     })
 }
@@ -74,29 +83,114 @@ fn shown(alloc: Global, map: &ClockMap) -> Result<String, NoMemory> {
     Ok(text)
 }
 
+fn views(alloc: Global, modes: &[&[(&str, i64)]]) -> Result<List<View>, NoMemory> {
+    let mut views = List::new(alloc);
+    for named in modes {
+        views.push(view(alloc, named, &[])?)?;
+    }
+    Ok(views)
+}
+
 #[test]
 fn clocks_of_modes(rt: HostRuntime) {
     let alloc = rt.alloc();
     let cases: [(&[&[(&str, i64)]], &str); 9] = [
         (&[], ""),
         (&[&[]], "|"),
-        (&[&[("b", 10), ("a", 10)], &[("Z", 10), ("y", 10)]], "b 10, a 10, | 0 1| 1 0"),
+        // ranks are by name in byte order
         (
-            &[&[("p", 4), ("q", 4)], &[("z", 4), ("a", 4)], &[("b", 4), ("B", 4)]],
+            &[&[("b", 10), ("a", 10)], &[("Z", 10), ("y", 10)]],
+            "b 10, a 10, | 0 1| 1 0",
+        ),
+        // three modes with two equal clocks each
+        (
+            &[
+                &[("p", 4), ("q", 4)],
+                &[("z", 4), ("a", 4)],
+                &[("b", 4), ("B", 4)],
+            ],
             "p 4, q 4, | 0 1| 1 0| 1 0",
         ),
-        (&[&[("c", 10)], &[("c", 8), ("c_1", 5)]], "c 10, c_2 8, c_1 5, | 0| 1 2"),
-        (&[&[("A", 10), ("B", 15)], &[("A", 10), ("C", 15)]], "A 10, B 15, | 0 1| 0 1"),
-        (&[&[("A", 10)], &[("A", 20)], &[("A", 20), ("x", 10)]], "A 10, A_1 20, | 0| 1| 1 0"),
-        (&[&[("c_1", 1)], &[("c", 2)], &[("c", 3)], &[("c_1", 4)]], "c_1 1, c 2, c_2 3, c_1_1 4, | 0| 1| 2| 3"),
-        (&[&[("a", 10), ("b", 10), ("c", 10)], &[("x", 10)]], "a 10, b 10, c 10, | 0 1 2| 0"),
+        // a later mode has a clock c_1
+        (
+            &[&[("c", 10)], &[("c", 8), ("c_1", 5)]],
+            "c 10, c_2 8, c_1 5, | 0| 1 2",
+        ),
+        (
+            &[&[("A", 10), ("B", 15)], &[("A", 10), ("C", 15)]],
+            "A 10, B 15, | 0 1| 0 1",
+        ),
+        (
+            &[&[("A", 10)], &[("A", 20)], &[("A", 20), ("x", 10)]],
+            "A 10, A_1 20, | 0| 1| 1 0",
+        ),
+        (
+            &[&[("c_1", 1)], &[("c", 2)], &[("c", 3)], &[("c_1", 4)]],
+            "c_1 1, c 2, c_2 3, c_1_1 4, | 0| 1| 2| 3",
+        ),
+        (
+            &[&[("a", 10), ("b", 10), ("c", 10)], &[("x", 10)]],
+            "a 10, b 10, c 10, | 0 1 2| 0",
+        ),
+    ];
+    for (modes, expected) in cases {
+        let views = views(alloc, modes).unwrap();
+        let map = map_clocks(alloc, &views).unwrap();
+        assert_eq!(rt; shown(alloc, &map).unwrap().as_str(), expected);
+    }
+}
+
+#[test]
+fn sixteen_different_clocks_of_one_name(rt: HostRuntime) {
+    let alloc = rt.alloc();
+    let mut modes = List::new(alloc);
+    for period in 2..18 {
+        modes
+            .push(view(alloc, &[("clk", period)], &[]).unwrap())
+            .unwrap();
+    }
+    let map = map_clocks(alloc, &modes).unwrap();
+    assert_eq!(rt;
+        shown(alloc, &map).unwrap().as_str(),
+        "clk 2, clk_1 3, clk_2 4, clk_3 5, clk_4 6, clk_5 7, clk_6 8, clk_7 9, clk_8 10, clk_9 11, clk_10 12, clk_11 13, clk_12 14, clk_13 15, clk_14 16, clk_15 17, | 0| 1| 2| 3| 4| 5| 6| 7| 8| 9| 10| 11| 12| 13| 14| 15"
+    );
+}
+
+#[test]
+fn exclusive_merged_clocks(rt: HostRuntime) {
+    let alloc = rt.alloc();
+    let a_and_b: &[(&str, i64)] = &[("A", 10), ("B", 15)];
+    let a_and_c: &[(&str, i64)] = &[("A", 10), ("C", 15)];
+    let a: &[(&str, i64)] = &[("A", 10)];
+    let reversed: &[(&str, i64)] = &[("B", 15), ("A", 10)];
+    let cases: [(&[(&[(&str, i64)], &[(u32, u32)])], &str); 6] = [
+        // the second mode has both and lets them be timed
+        (&[(a_and_b, &[(0, 1)]), (a_and_c, &[])], ""),
+        // the one mode that has both excludes them
+        (&[(a_and_b, &[(0, 1)]), (a, &[])], "(0 1)"),
+        // no mode has both
+        (
+            &[(a, &[]), (&[("A", 20)], &[]), (&[("A", 30)], &[])],
+            "(0 1)(0 2)(1 2)",
+        ),
+        (&[(a_and_b, &[])], ""),
+        // the places of the second mode are the other way round
+        (&[(a_and_b, &[(0, 1)]), (reversed, &[(0, 1)])], "(0 1)"),
+        (&[(a_and_b, &[(0, 1)]), (reversed, &[])], ""),
     ];
     for (modes, expected) in cases {
         let mut views = List::new(alloc);
-        for named in modes {
-            views.push(view(alloc, named, &[]).unwrap()).unwrap();
+        for (named, exclusive) in modes {
+            views.push(view(alloc, named, exclusive).unwrap()).unwrap();
         }
         let map = map_clocks(alloc, &views).unwrap();
-        assert_eq!(rt; shown(alloc, &map).unwrap().as_str(), expected);
+        let count = map.clocks.len() as u32;
+        let pairs = exclusive_pairs(alloc, &views, &map.maps, count).unwrap();
+        let mut text = String::new(alloc);
+        for pair in pairs.iter() {
+            let word = format!(in alloc; "({} {})", pair.first, pair.second).unwrap();
+            text.push_str(word.as_str()).unwrap();
+        }
+        assert_eq!(rt; text.as_str(), expected);
     }
 }

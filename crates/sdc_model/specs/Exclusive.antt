@@ -27,6 +27,15 @@ SomeLetsBeTimed (view ∷ views) (numbers ∷ maps) a b =
 abbrev pub AreExclusive : List View → List (List ℕ) → ℕ → ℕ → Type 0
 AreExclusive views maps a b = SomeLetsBeTimed views maps a b → ⊥
 
+-- no two clocks of a mode are one merged clock
+abbrev pub IsApart : List ℕ → Type 0
+IsApart numbers = (p q n : ℕ) → slice_get numbers p ≡ Some n → slice_get numbers q ≡ Some n → p ≡ q
+
+-- nor of any mode
+abbrev pub AreApart : List (List ℕ) → Type 0
+AreApart [] = Unit {0}
+AreApart (numbers ∷ maps) = IsApart numbers × AreApart maps
+
 abbrev pub ComesBefore : Pair → Pair → Type 0
 ComesBefore x y = (x.first < y.first) ⊎ ((x.first ≡ y.first) × (x.second < y.second))
 

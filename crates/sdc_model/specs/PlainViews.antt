@@ -1,6 +1,7 @@
 -- What a list of modes must have so that its clocks can be merged by their own waveforms alone. This project's own.
--- Every clock is primary, each has its wave, and the clocks can be counted.
+-- Every clock is primary, each has its wave, and the clocks can be counted. Two modes may have the same clocks.
 use Rattle.std.specs.Prelude.{◌≡◌, ◌+◌, ℕ, List, [], ◌∷◌, ◌++◌, length, map}
+use Rattle.std.specs.List.{AllZip}
 use Rattle.sdc_model.specs.declared.clocks.Clock.{Clock}
 use Rattle.sdc_model.specs.declared.clocks.Wave.{Wave}
 use Rattle.sdc_model.specs.declared.clocks.Form.{Form}
@@ -51,3 +52,12 @@ views_of modes = map view_of modes
 abbrev pub clocks_in : List Mode → ℕ
 clocks_in [] = 0
 clocks_in (mode ∷ modes) = length mode.clocks + clocks_in modes
+
+-- a clock apart from its line
+abbrev pub without_line : Clock → Clock
+without_line clock = record clock { line = 0 }
+
+-- two modes have the same clocks apart from lines, with the same waves
+pub record HaveSameClocks (first second : View) : Type 0 where
+  pub clocks : AllZip (λ clock other. without_line clock ≡ without_line other) first.mode.clocks second.mode.clocks
+  pub waves : first.waves ≡ second.waves

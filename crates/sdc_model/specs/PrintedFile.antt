@@ -12,6 +12,7 @@ use Rattle.sdc_model.specs.declared.clocks.Wave.{Wave}
 use Rattle.sdc_model.specs.declared.designs.Design.{Design}
 use Rattle.sdc_model.specs.declared.modes.Mode.{Mode}
 use Rattle.sdc_model.specs.ClockFile.{is_name, is_taken, virtual_clock}
+use Rattle.sdc_model.specs.PlainViews.{without_line}
 use Rattle.sdc_model.specs.PrintedLine.{PrintedWord, bare, spaced, lines_text, name_word, list_word, query_word}
 
 -- the time unit of a library as Liberty and SDC name it
@@ -149,9 +150,6 @@ pub record IsPrintable (design : Design) (mode : Mode) : Type 0 where
   pub pairs : ArePairs (length mode.clocks) mode.exclusive
   pub alone : IsOfClocks mode
 
--- a clock, and a mode, apart from the lines of the commands that made its clocks
-abbrev pub without_line : Clock → Clock
-without_line clock = record clock { line = 0 }
-
+-- a mode apart from the lines of the commands that made its clocks
 abbrev pub without_lines : Mode → Mode
 without_lines mode = record mode { clocks = map without_line mode.clocks }

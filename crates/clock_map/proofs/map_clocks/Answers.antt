@@ -1,4 +1,4 @@
-use Rattle.std.proofs.Common.{◌≡◌, ◌∙◌, ◌≤◌, ◌^◌, length, ℕ, arith, rules, sym, ap, subst}
+use Rattle.std.proofs.Common.{◌≡◌, ◌∙◌, length, arith, sym, ap}
 use Rattle.clock_map.proofs.PlainMaps.{is_map, length-standings_of, length-identities_of}
 use Rattle.sdc_model.specs.PlainViews.{clock_count}
 use Rattle.clock_map.proofs.map_clocks.Goals as goal
@@ -6,7 +6,7 @@ use Rattle.clock_map.proofs.map_clocks.Goals as goal
 pub numbers_of-requires : goal.numbers_of-requires
 numbers_of-requires c =
     let many : length c.in_ok-standings.identities ≡ clock_count c.args.modes.now =
-      ap length c.in_ok-standings.ensures.identities ∙ length-identities_of c.args.modes.now c.requires.waves in
+    ap length c.in_ok-standings.ensures.identities ∙ length-identities_of c.args.modes.now c.requires.waves in
     omega (arith, c.requires.few)
 
 pub merged_clocks-requires-clause-beside : goal.merged_clocks-requires-clause-beside
@@ -26,5 +26,5 @@ rows_of-requires c =
 pub returns : goal.returns
 returns c =
     is_map c.args.modes.now c.in_ok-standings.standings c.in_ok-standings.identities c.in_ok-numbers.numbers _ c.requires.primary c.requires.waves
-      c.in_ok-standings.ensures.standings c.in_ok-standings.ensures.identities c.in_ok-numbers.ensures c.in_ok-merged.ensures
-      c.in_ok-maps.ensures.all c.in_ok-maps.ensures.shape
+    c.in_ok-standings.ensures.standings c.in_ok-standings.ensures.identities c.in_ok-numbers.ensures c.in_ok-merged.ensures
+    c.in_ok-maps.ensures.all c.in_ok-maps.ensures.shape

@@ -1,8 +1,4 @@
-use Rattle.std.proofs.Common.{◌≡◌, List, ℕ, ◌∙◌, ◌++◌, ◌∷◌, [], arith, rules, refl, sym, ap, subst}
-use Rattle.std.specs.BTreeSet.{Updates}
-use Rattle.std.specs.Ordering.{nat_cmp}
-use Rattle.std.specs.Cmp.Lexicographic.{slice_cmp}
-use Rattle.sdc_model.specs.ClockIdentity as identity
+use Rattle.std.proofs.Common.{List, ℕ, ◌∙◌, ◌++◌, ◌∷◌, [], ap, subst}
 use Rattle.clock_map.specs.MergedClocks.{HasOneMore}
 use Rattle.clock_map.proofs.NameSets.{one_more}
 use Rattle.clock_map.proofs.merged.add_merged.Goals as goal

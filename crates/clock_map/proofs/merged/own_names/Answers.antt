@@ -1,5 +1,4 @@
-use Rattle.std.proofs.Common.{◌≡◌, ◌<◌, ◌≤◌, ℕ, List, length, take, get_or, ◌∙◌, arith, rules, refl, sym, ap, subst, []}
-use Rattle.std.specs.Prelude.{◌↔◌}
+use Rattle.std.proofs.Common.{◌≤◌, ℕ, List, length, subst}
 use Rattle.std.proofs.lemmas.List.{take_all}
 use Rattle.sdc_model.specs.declared.identities.Standing.{Standing}
 use Rattle.sdc_model.specs.ClockIdentity.{names_of}
@@ -13,9 +12,9 @@ loop-standing-preserved c =
     let before = c.loop-standing.names in
     let added = one_more before c.insert.new.self c.in_ok-name.name c.in_ok-insert.ensures.updates in
     let more : HasOneMore before.keys c.standing-item.result.name c.insert.new.self.keys =
-      subst (λ (n : List ℕ). HasOneMore before.keys n c.insert.new.self.keys) c.in_ok-name.ensures added in
+    subst (λ (n : List ℕ). HasOneMore before.keys n c.insert.new.self.keys) c.in_ok-name.ensures added in
     names_step c.args.standings.now c.loop-standing.standing-index c.standing-item.result before.keys c.insert.new.self.keys
-      (rw items at c.loop-standing-test.true) (rw items at c.standing-item.is) more c.loop-standing.invariant
+    (rw items at c.loop-standing-test.true) (rw items at c.standing-item.is) more c.loop-standing.invariant
 
 pub returns : goal.returns
 returns c =

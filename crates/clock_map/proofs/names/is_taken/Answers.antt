@@ -7,4 +7,4 @@ returns-then-contains c = held_first c.args.own.now c.args.earlier.now c.args.na
 pub returns-else-contains : goal.returns-else-contains
 returns-else-contains c =
     held_second c.args.own.now c.args.earlier.now c.args.name.now c.contains.result c.contains-else-contains.result
-      c.contains.ensures c.if-contains.false c.contains-else-contains.ensures
+    c.contains.ensures c.if-contains.false c.contains-else-contains.ensures

@@ -1,4 +1,4 @@
-use Rattle.std.proofs.Common.{◌≡◌, ◌<◌, ◌≤◌, ◌+◌, length, arith, rules, refl, sym, ap, get_or}
+use Rattle.std.proofs.Common.{◌<◌, ◌≤◌, length, arith}
 use Rattle.clock_map.proofs.NumberLists.{knows_step, knows_few, knows_done}
 use Rattle.clock_map.proofs.numbering.numbers_of.Goals as goal
 
@@ -12,8 +12,8 @@ pub loop-identity-preserved : goal.loop-identity-preserved
 loop-identity-preserved c =
     let identities = c.as_slice-identity-items.ensures in
     knows_step c.loop-identity.known _ c.args.identities.now c.loop-identity.identity-index c.loop-identity.numbers _ c.identity-item.result c.in_ok-number.number
-      (rw identities at c.loop-identity-test.true) (rw identities at c.identity-item.is)
-      c.in_ok-push.ensures.ok c.in_ok-number.ensures c.loop-identity.invariant
+    (rw identities at c.loop-identity-test.true) (rw identities at c.identity-item.is)
+    c.in_ok-push.ensures.ok c.in_ok-number.ensures c.loop-identity.invariant
 
 pub returns : goal.returns
 returns c =

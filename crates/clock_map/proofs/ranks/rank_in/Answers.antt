@@ -1,9 +1,8 @@
 -- Each of the two searches counts, in a list that is sorted by what it compares.
-use Rattle.std.proofs.Common.{◌≡◌, ◌∙◌, ◌+◌, ◌-◌, ◌≤◌, ℕ, length, arith, rules, refl, sym, ap}
+use Rattle.std.proofs.Common.{◌≡◌, arith, rules}
 use Rattle.std.specs.List.{count_by}
 use Rattle.std.specs.Ordering.{is_lt}
 use Rattle.std.proofs.lemmas.List.Sorted.{IsPartitionPoint-from_clause}
-use Rattle.sdc_model.specs.ClockIdentity.{rank_among}
 use Rattle.clock_map.proofs.RankLists.{standing_cmp, definition_cmp, standing_total, definition_total, parted, sorted_by_definition, point_counts, rank_splits}
 use Rattle.clock_map.proofs.ranks.rank_in.Goals as goal
 use Rattle.clock_map.proofs.ranks.rank_in.Goals.{After-partition_point-of_less}
@@ -15,7 +14,7 @@ counted_ahead c =
     let x = c.args.standing.now in
     let clauses = c.partition_point-ahead.ensures in
     let point = IsPartitionPoint-from_clause (λ y. is_lt (standing_cmp y x)) xs _ clauses.partitioned
-      (parted standing_total (λ y. y) xs x c.requires) (λ a r q k. search rules) in
+    (parted standing_total (λ y. y) xs x c.requires) (λ a r q k. search rules) in
     point_counts _ xs _ clauses.bound (λ k d within. point.0 k d (omega arith) within) (λ k d from within. point.1 k d from within)
 
 counted_less : (c : After-partition_point-of_less)
@@ -25,7 +24,7 @@ counted_less c =
     let x = c.args.standing.now in
     let clauses = c.partition_point-of_less.ensures in
     let point = IsPartitionPoint-from_clause (λ y. is_lt (definition_cmp y.definition x.definition)) xs _ clauses.partitioned
-      (parted definition_total (λ y. y.definition) xs x.definition (sorted_by_definition xs c.requires)) (λ a r q k. search rules) in
+    (parted definition_total (λ y. y.definition) xs x.definition (sorted_by_definition xs c.requires)) (λ a r q k. search rules) in
     point_counts _ xs _ clauses.bound (λ k d within. point.0 k d (omega arith) within) (λ k d from within. point.1 k d from within)
 
 pub overflow_sub-result : goal.overflow_sub-result

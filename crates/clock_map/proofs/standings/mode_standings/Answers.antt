@@ -1,7 +1,6 @@
-use Rattle.std.proofs.Common.{◌≡◌, ◌∙◌, ◌<◌, arith, rules, refl, sym, ap, ◌++◌, ◌∷◌, [], length, get_or}
-use Rattle.sdc_model.specs.declared.clocks.Clock.{Clock}
+use Rattle.std.proofs.Common.{◌≡◌, ◌<◌, ap, length, get_or}
 use Rattle.sdc_model.specs.declared.clocks.Wave.{Wave}
-use Rattle.clock_map.proofs.StandingLists.{standings_step, standings_done, plain_standing}
+use Rattle.clock_map.proofs.StandingLists.{standings_step, plain_standing}
 use Rattle.clock_map.proofs.standings.mode_standings.Goals as goal
 
 pub loop-place-preserved : goal.loop-place-preserved
@@ -16,6 +15,6 @@ loop-place-preserved c =
     let clock_is : clock ≡ get_or c.args.view.now.mode.clocks place clock = rw clocks at c.clock-item.is in
     let wave_is : wave ≡ get_or c.args.view.now.waves place none = ap (λ ws. get_or ws place none) waves in
     let standing : record { definition = c.in_ok-definition.definition; name = c.in_ok-name.name; place = place } ≡ plain_standing place clock wave =
-      λ i. record { definition = c.in_ok-definition.ensures i; name = c.in_ok-name.ensures i; place = place } in
+    λ i. record { definition = c.in_ok-definition.ensures i; name = c.in_ok-name.ensures i; place = place } in
     standings_step c.args.view.now place clock wave none c.loop-place.standings _ _ c.requires.primary c.requires.waves
-      within clock_is wave_is standing c.in_ok-push.ensures.ok c.loop-place.invariant
+    within clock_is wave_is standing c.in_ok-push.ensures.ok c.loop-place.invariant

@@ -1,0 +1,55 @@
+-- What is kept of each mode, mode by mode.
+use Rattle.std.proofs.Common.{◌≡◌, ℕ, zero, suc, ◌+◌, ◌<◌, ◌≤◌, List, [], ◌∷◌, ◌++◌, length, take, get_or, refl, sym, ap, ◌∙◌, subst, arith}
+use Rattle.std.proofs.lemmas.List.{take_more, take_all, length-take-le}
+use Rattle.sdc_model.specs.declared.views.View.{View}
+use Rattle.sdc_model.specs.Exclusive.{IsApart, AreApart}
+use Rattle.clock_map.specs.declared.exclusive.Timing.{Timing}
+use Rattle.clock_map.specs.Timings.{ArePlaces, HoldsPairs, IsTiming, AreTimings, KnowClock}
+
+pub apart_at : (maps : List (List ℕ)) (i : ℕ) (numbers : List ℕ) → AreApart maps → i < length maps → numbers ≡ get_or maps i numbers → IsApart numbers
+apart_at maps i numbers apart within is = subst IsApart (sym is) (at_place maps i numbers apart within) where
+  at_place : (maps : List (List ℕ)) (i : ℕ) (d : List ℕ) → AreApart maps → i < length maps → IsApart (get_or maps i d)
+  at_place [] i d apart within = absurd (omega arith)
+  at_place (numbers ∷ maps) zero d apart within = apart.0
+  at_place (numbers ∷ maps) (suc i) d apart within = at_place maps i d apart.1 (omega arith)
+
+timings_push : (count : ℕ) (views : List View) (maps : List (List ℕ)) (timings : List Timing) (view : View) (numbers : List ℕ) (timing : Timing)
+    → length maps ≡ length views → AreTimings count views maps timings → IsTiming count view numbers timing
+    → AreTimings count (views ++ view ∷ []) (maps ++ numbers ∷ []) (timings ++ timing ∷ [])
+timings_push count [] [] [] view numbers timing beside known this = (this, refl)
+timings_push count [] [] (other ∷ timings) view numbers timing beside known this = cc
+timings_push count [] (other ∷ maps) timings view numbers timing beside known this = absurd (omega arith)
+timings_push count (other ∷ views) [] timings view numbers timing beside known this = absurd (omega arith)
+timings_push count (v ∷ views) (n ∷ maps) [] view numbers timing beside known this = absurd known
+timings_push count (v ∷ views) (n ∷ maps) (t ∷ timings) view numbers timing beside known this =
+    (known.0, timings_push count views maps timings view numbers timing (omega arith) known.1 this)
+
+pub timings_step : (count : ℕ) (views : List View) (maps : List (List ℕ)) (i : ℕ) (timings timings' : List Timing) (view : View) (numbers : List ℕ) (timing : Timing)
+    → length maps ≡ length views → i < length views → view ≡ get_or views i view → numbers ≡ get_or maps i numbers
+    → ArePlaces count numbers timing.places.items → HoldsPairs view.mode.exclusive timing.exclusive.keys → timings' ≡ timings ++ timing ∷ []
+    → AreTimings count (take i views) (take i maps) timings → AreTimings count (take (i + 1) views) (take (i + 1) maps) timings'
+timings_step count views maps i timings timings' view numbers timing beside within view_is numbers_is places pairs timings_is known =
+    let within' : i < length maps = omega arith in
+    let more : take (i + 1) views ≡ take i views ++ view ∷ [] = take_more views i view within ∙ ap (λ v. take i views ++ v ∷ []) (sym view_is) in
+    let more' : take (i + 1) maps ≡ take i maps ++ numbers ∷ [] = take_more maps i numbers within' ∙ ap (λ n. take i maps ++ n ∷ []) (sym numbers_is) in
+    let short : length (take i maps) ≡ length (take i views) = length-take-le i maps (omega arith) ∙ sym (length-take-le i views (omega arith)) in
+    rw (more, more', timings_is) (timings_push count (take i views) (take i maps) timings view numbers timing short known (record { places = places; pairs = pairs }))
+
+pub timings_done : (count : ℕ) (views : List View) (maps : List (List ℕ)) (i : ℕ) (timings : List Timing) → length maps ≡ length views → length views ≤ i
+    → AreTimings count (take i views) (take i maps) timings → AreTimings count views maps timings
+timings_done count views maps i timings beside done known =
+    let all : take i views ≡ views = take_all i views done in
+    let all' : take i maps ≡ maps = take_all i maps (omega arith) in
+    subst (λ (ms : List (List ℕ)). AreTimings count views ms timings) all' (subst (λ (vs : List View). AreTimings count vs (take i maps) timings) all known)
+
+-- each merged clock is known of each mode
+pub clocks_known : (count : ℕ) (views : List View) (maps : List (List ℕ)) (timings : List Timing) (k : ℕ) → AreTimings count views maps timings → k < count → KnowClock timings k
+clocks_known count [] maps timings k known below p d within =
+    let none : length timings ≡ 0 = ap length known in absurd (omega arith)
+clocks_known count (view ∷ views) [] timings k known below p d within =
+    let none : length timings ≡ 0 = ap length known in absurd (omega arith)
+clocks_known count (view ∷ views) (numbers ∷ maps) [] k known below p d within = absurd known
+clocks_known count (view ∷ views) (numbers ∷ maps) (timing ∷ timings) k known below zero d within =
+    let long = known.0.places.0 in omega (arith, timing.places.ok.0)
+clocks_known count (view ∷ views) (numbers ∷ maps) (timing ∷ timings) k known below (suc p) d within =
+    clocks_known count views maps timings k known.1 below p d (omega arith)
