@@ -1,30 +1,18 @@
 -- What lines do to the clocks and groups that were said so far, and what the lines of clocks do.
-use Rattle.std.proofs.Common.{◌≡◌, ◌<◌, ◌≤◌, ◌+◌, ◌-◌, ◌%◌, ◌^◌, ◌&&◌, ◌||◌, ◌==◌, ◌⊎◌, ℕ, zero, suc, ℤ, pos, negsuc, Bool, true, false, not, cond, IsTrue, List, [], ◌∷◌, ◌++◌, length, map, codes, nat_lt, nat_le, Option, Some, None, Result, Ok, refl, sym, ◌∙◌, ap, subst, inl, inr, arith, append_assoc, append-nil, lit≤}
-use Rattle.std.proofs.lemmas.Bool.{and_parts}
-use Rattle.std.proofs.lemmas.Bool.Decides.{nat_tests}
-use Rattle.std.proofs.lemmas.Int.{ints}
+use Rattle.std.proofs.Common.{◌≡◌, ◌||◌, ℕ, pos, Bool, true, false, cond, List, [], ◌∷◌, ◌++◌, map, codes, Some, refl, sym, ◌∙◌, ap, subst, append_assoc, append-nil}
 use Rattle.std.proofs.lemmas.List.{map-append}
-use Rattle.std.specs.Int.RustNames.{unsigned_abs}
-use Rattle.std.specs.List.{list_all}
 use Rattle.std.specs.Option.{option_and_then}
-use Rattle.sdc_base.specs.Number.{Number, read_number}
-use Rattle.sdc_base.specs.declared.fixed.NumberError.{NumberError}
-use Rattle.sdc_base.specs.NumberLaws.{IsTimeText, ReadsBack, is_time_byte}
-use Rattle.sdc_base.specs.Time.{IsUnit, time_text_of}
-use Rattle.sdc_base.proofs.ReadBackFacts.{time_text_plain, time_text_reads_back}
+use Rattle.sdc_base.specs.Time.{time_text_of}
 use Rattle.sdc_model.specs.declared.clocks.Clock.{Clock}
 use Rattle.sdc_model.specs.declared.clocks.Wave.{Wave}
 use Rattle.sdc_model.specs.declared.commands.Part.{Part}
 use Rattle.sdc_model.specs.declared.commands.Part.TheVariants as part
-use Rattle.sdc_model.specs.declared.commands.Word.{Word}
-use Rattle.sdc_model.specs.Bytes.{is_blank, is_plain, line_after}
-use Rattle.sdc_model.specs.ClockFile.{SoFar, is_name, is_taken, virtual_clock, with_clock, wave_given, waved_clock, does, do_all}
+use Rattle.sdc_model.specs.Bytes.{line_after}
+use Rattle.sdc_model.specs.ClockFile.{SoFar, is_name, is_taken, virtual_clock, with_clock, waved_clock, does, do_all}
 use Rattle.sdc_model.specs.ClockGroups.{Groups}
-use Rattle.sdc_model.specs.Items.{Parted, all_items, items, parted}
 use Rattle.sdc_model.specs.PrintedCommands.{commands_of, word_of}
 use Rattle.sdc_model.specs.PrintedFile.{ArePrintableClocks, IsPrintableWave, clock_line, clock_lines, header_lines, lines_of_form, unit_text, without_line}
 use Rattle.sdc_model.specs.PrintedLine.{PrintedWord, bare, braced, is_bare_text, line_text, name_word, spaced}
-use Rattle.sdc_model.specs.Waveform.{nanoseconds, period_of, time_from, time_in, time_within, wave_of, wave_within, waveform_of}
 use Rattle.sdc_model.specs.Words.{is_text, same_text}
 use Rattle.sdc_print.proofs.RunFacts.{by_bool}
 use Rattle.sdc_print.proofs.WaveText.{ns, wave_text}
@@ -101,13 +89,13 @@ clock_goes : (before : List Clock) (groups : List Groups) (clock : Clock) (wave 
     → is_taken clock.name before ≡ false → Said before groups start → Goes start (clock_line ns clock.name wave ∷ []) (Said (before ++ clock ∷ []) groups)
 clock_goes before groups clock wave start e w named new said =
     goes_line start (clock_line ns clock.name wave) (Said (before ++ clock ∷ []) groups) (λ line.
-      let made : Clock = virtual_clock line clock.name wave in
-      let now : SoFar = record start { clocks = start.clocks ++ made ∷ [] } in
-      let same : map without_line (start.clocks ++ made ∷ []) ≡ map without_line (before ++ clock ∷ []) =
-        map-append without_line start.clocks (made ∷ [])
-        ∙ (ap (λ (cs : List Clock). cs ++ without_line made ∷ []) said.clocks
-        ∙ (ap (λ (c : Clock). map without_line before ++ c ∷ []) (sym (ap without_line e)) ∙ sym (map-append without_line before (clock ∷ [])))) in
-      (now, record { clocks = same; groups = said.groups }, clock_does start line clock.name wave w named (taken_same clock.name start.clocks before said.clocks ∙ new)))
+    let made : Clock = virtual_clock line clock.name wave in
+    let now : SoFar = record start { clocks = start.clocks ++ made ∷ [] } in
+    let same : map without_line (start.clocks ++ made ∷ []) ≡ map without_line (before ++ clock ∷ []) =
+    map-append without_line start.clocks (made ∷ [])
+    ∙ (ap (λ (cs : List Clock). cs ++ without_line made ∷ []) said.clocks
+    ∙ (ap (λ (c : Clock). map without_line before ++ c ∷ []) (sym (ap without_line e)) ∙ sym (map-append without_line before (clock ∷ [])))) in
+    (now, record { clocks = same; groups = said.groups }, clock_does start line clock.name wave w named (taken_same clock.name start.clocks before said.clocks ∙ new)))
 
 pub line_of_form : (clock : Clock) (wave : Wave) → clock ≡ virtual_clock clock.line clock.name wave → lines_of_form ns clock.name clock.form ≡ clock_line ns clock.name wave ∷ []
 line_of_form clock wave e = ap (λ (c : Clock). lines_of_form ns clock.name c.form) e
@@ -120,4 +108,4 @@ clock_lines_go (clock ∷ clocks) before groups start a said =
     goes_on start (lines_of_form ns clock.name clock.form) (clock_lines ns clocks) (Said (before ++ clock ∷ []) groups) (Said (before ++ (clock ∷ clocks)) groups)
     (subst (λ (lines : List (List PrintedWord)). Goes start lines (Said (before ++ clock ∷ []) groups)) (sym (line_of_form clock wave a.0.1)) first)
     (λ now next. subst (λ (cs : List Clock). Goes now (clock_lines ns clocks) (Said cs groups)) (append_assoc before (clock ∷ []) clocks)
-      (clock_lines_go clocks (before ++ clock ∷ []) groups now a.2 next))
+    (clock_lines_go clocks (before ++ clock ∷ []) groups now a.2 next))

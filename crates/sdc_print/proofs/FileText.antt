@@ -1,5 +1,5 @@
 -- Printed files are text, and have just the commands of their lines: each word is one of the grammar.
-use Rattle.std.proofs.Common.{◌≡◌, ◌<◌, ◌≤◌, ◌^◌, ◌&&◌, ◌||◌, ◌==◌, ◌⊎◌, ℕ, zero, suc, ℤ, pos, Bool, true, false, IsTrue, List, [], ◌∷◌, ◌++◌, length, map, codes, nat_lt, refl, sym, ◌∙◌, ap, subst, inl, inr, arith, lit<}
+use Rattle.std.proofs.Common.{◌≡◌, ◌<◌, ◌&&◌, ℕ, Bool, true, List, [], ◌∷◌, ◌++◌, length, refl, sym, ◌∙◌, ap, subst, inl, inr, arith, lit<}
 use Rattle.std.proofs.lemmas.Bool.{and_parts}
 use Rattle.std.proofs.lemmas.Bool.Decides.{nat_tests}
 use Rattle.std.proofs.lemmas.List.Folds.{list_all-append}
@@ -8,7 +8,7 @@ use Rattle.std.proofs.lemmas.Str.Ascii.{IsAscii-cons, IsAscii-nil}
 use Rattle.std.specs.List.{list_all}
 use Rattle.std.specs.Str.{IsAscii, IsUtf8}
 use Rattle.sdc_model.specs.declared.commands.Word.{Word}
-use Rattle.sdc_model.specs.Bytes.{is_blank, is_braced, is_bracketed, is_name_byte, is_plain}
+use Rattle.sdc_model.specs.Bytes.{is_braced, is_bracketed, is_plain}
 use Rattle.sdc_model.specs.Commands.{IsWord}
 use Rattle.sdc_model.specs.PrintedCommands.{AreSpelled, AreSpelledLines, word_of}
 use Rattle.sdc_model.specs.PrintedLine.{PrintedWord, bare, braced, bracketed, spelled, spaced, words_text, line_text, lines_text}

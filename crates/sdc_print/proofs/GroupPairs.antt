@@ -1,5 +1,5 @@
 -- The pairs that the groups of a mode's lines make exclusive are the mode's pairs, in order.
-use Rattle.std.proofs.Common.{◌≡◌, ◌<◌, ◌≤◌, ◌+◌, ◌&&◌, ◌||◌, ◌==◌, ◌⊎◌, ℕ, zero, suc, Bool, true, false, cond, List, [], ◌∷◌, ◌++◌, length, map, drop, nat_eq, refl, sym, ◌∙◌, ap, subst, inl, inr, arith, append_assoc}
+use Rattle.std.proofs.Common.{◌≡◌, ◌<◌, ◌≤◌, ◌+◌, ◌&&◌, ◌||◌, ℕ, zero, suc, Bool, true, false, List, [], ◌∷◌, ◌++◌, length, map, drop, nat_eq, refl, sym, ◌∙◌, ap, subst, inl, inr, arith}
 use Rattle.std.proofs.lemmas.Bool.Decides.{nat_tests}
 use Rattle.sdc_model.specs.declared.clocks.Clock.{Clock}
 use Rattle.sdc_model.specs.declared.clocks.Pair.{Pair}
@@ -61,12 +61,12 @@ parted_line place count i j [] rest h w = ap (λ (b : Bool). b || is_parted rest
 parted_line place count i j (other ∷ others) rest h w =
     let a = is_among j (other ∷ others) in
     let other_way : ((nat_eq place j || false) && is_among i (other ∷ others)) ≡ false =
-      elim (same_or_not place j) [
-        | inl e ↦
-            let none : is_among i (other ∷ others) ≡ false = none_below i place count (other ∷ others) (omega (arith, e, h)) w in
-            ap (λ (b : Bool). (nat_eq place j || false) && b) none ∙ and_false (nat_eq place j || false)
-        | inr n ↦ ap (λ (b : Bool). (b || false) && is_among i (other ∷ others)) (differ place j n)
-      ] in
+    elim (same_or_not place j) [
+      | inl e ↦
+          let none : is_among i (other ∷ others) ≡ false = none_below i place count (other ∷ others) (omega (arith, e, h)) w in
+          ap (λ (b : Bool). (nat_eq place j || false) && b) none ∙ and_false (nat_eq place j || false)
+      | inr n ↦ ap (λ (b : Bool). (b || false) && is_among i (other ∷ others)) (differ place j n)
+    ] in
     ap (λ (b : Bool). (((nat_eq place i || false) && a) || b) || is_parted rest i j) other_way
     ∙ (ap (λ (b : Bool). ((b && a) || false) || is_parted rest i j) (or_false (nat_eq place i))
     ∙ ap (λ (b : Bool). b || is_parted rest i j) (or_false (nat_eq place i && a)))
@@ -123,14 +123,14 @@ row_is groups i j (suc more) end (place ∷ places) e p r =
       | inl s ↦
           let here : is_parted groups i j ≡ true = p j (omega arith) ∙ ap (λ (b : Bool). b || is_among j places) (same place j s) in
           let later : (b : ℕ) → j + 1 ≤ b → is_parted groups i b ≡ is_among b places =
-            λ b h. p b (omega arith) ∙ ap (λ (t : Bool). t || is_among b places) (differ place b (λ f. omega (arith, f, s, h))) in
+          λ b h. p b (omega arith) ∙ ap (λ (t : Bool). t || is_among b places) (differ place b (λ f. omega (arith, f, s, h))) in
           let others = row_is groups i (j + 1) more end places (omega arith) later (subst (λ (n : ℕ). Rises n end places) (omega (arith, s)) r.2) in
           rw here (ap (λ (n : ℕ). let q : List Pair = record { first = i; second = n } ∷ pairs_with groups i (j + 1) more in q) (sym s)
           ∙ ap (λ (ps : List Pair). let q : List Pair = record { first = i; second = place } ∷ ps in q) others)
       | inr n ↦
           let above : j < place = omega (arith, n, r.0) in
           let none : is_parted groups i j ≡ false =
-            p j (omega arith) ∙ rises_above j (suc j) end (place ∷ places) (omega arith) (above, r.1, r.2) in
+          p j (omega arith) ∙ rises_above j (suc j) end (place ∷ places) (omega arith) (above, r.1, r.2) in
           rw none (row_is groups i (j + 1) more end (place ∷ places) (omega arith) (λ b h. p b (omega arith)) (omega (arith, above), r.1, r.2))
     ]
 
@@ -153,7 +153,7 @@ others_rise count place low (pair ∷ pairs) o f b =
     elim (same_or_not pair.first place) [
       | inl e ↦
           let rises : Rises low count (pair.second ∷ exclusive_to place pairs) =
-            (b e, o.1, others_rise count place (suc pair.second) pairs o.3 f.1 (begins_behind place pair pairs e o.2)) in
+          (b e, o.1, others_rise count place (suc pair.second) pairs o.3 f.1 (begins_behind place pair pairs e o.2)) in
           subst (Rises low count) (sym (exclusive_same place pair pairs e)) rises
       | inr n ↦ subst (Rises low count) (sym (exclusive_other place pair pairs n ∙ none_from place pairs (are_behind count pair pairs (suc place) (omega (arith, n, f.0)) o.2 o.3))) tt
     ]
@@ -186,10 +186,10 @@ pairs_are groups count i (suc more) pairs e o f p =
     let rest = drop (run_length i pairs) pairs in
     let taken : TakesRun count i (run_length i pairs) pairs = takes_run count i pairs o f in
     let row = row_is groups i (i + 1) more count (exclusive_to i pairs) (omega arith) (λ b h. p i b (omega arith) (omega arith) (omega arith))
-      (others_rise count i (i + 1) pairs o f (begins_above count i pairs o)) in
+    (others_rise count i (i + 1) pairs o f (begins_above count i pairs o)) in
     let next : suc i ≡ i + 1 = omega arith in
     let later : (a b : ℕ) → i + 1 ≤ a → a < count → a < b → is_parted groups a b ≡ is_among b (exclusive_to a rest) =
-      λ a b h k l. p a b (omega arith) k l ∙ ap (is_among b) (later_without_run i a pairs (omega arith)) in
+    λ a b h k l. p a b (omega arith) k l ∙ ap (is_among b) (later_without_run i a pairs (omega arith)) in
     let others = pairs_are groups count (i + 1) more rest (omega arith) taken.order (subst (λ (n : ℕ). AreFrom n rest) next taken.above) later in
     ap (λ (ps : List Pair). ps ++ pairs_from groups (i + 1) more) row
     ∙ (ap (λ (ps : List Pair). pairs_of i (exclusive_to i pairs) ++ ps) others ∙ sym (run_and_rest count i pairs o f))

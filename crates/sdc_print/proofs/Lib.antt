@@ -1,6 +1,7 @@
 pub mod AddedFacts
 pub mod ClockLines
 pub mod CommandFacts
+pub mod FileReads
 pub mod FileText
 pub mod GroupFacts
 pub mod GroupLines

@@ -1,25 +1,20 @@
 -- The file of a printable mode: its words are those of the grammar, and it says what its lines go to.
-use Rattle.std.proofs.Common.{◌≡◌, ◌<◌, ◌≤◌, ◌^◌, ◌&&◌, ℕ, ℤ, pos, Bool, true, false, cond, IsTrue, List, [], ◌∷◌, ◌++◌, length, map, codes, nat_lt, Option, Some, None, Result, Ok, Err, refl, sym, ◌∙◌, ap, subst, inl, inr, arith, append-nil, lit<}
+use Rattle.std.proofs.Common.{◌≡◌, ℕ, pos, Bool, true, cond, List, [], ◌∷◌, ◌++◌, length, codes, nat_lt, Some, Ok, refl, sym, ◌∙◌, ap, subst, inl, append-nil, lit<}
 use Rattle.std.proofs.lemmas.Bool.{and_parts, ltb-true}
-use Rattle.std.proofs.lemmas.List.{length-map}
 use Rattle.std.specs.List.{list_all}
 use Rattle.sdc_base.specs.Time.{time_text_of}
 use Rattle.sdc_model.specs.declared.clocks.Clock.{Clock}
-use Rattle.sdc_model.specs.declared.clocks.Pair.{Pair}
 use Rattle.sdc_model.specs.declared.clocks.Wave.{Wave}
 use Rattle.sdc_model.specs.declared.commands.Command.{Command}
-use Rattle.sdc_model.specs.declared.kinds.TclKind.{TclKind}
-use Rattle.sdc_model.specs.declared.modes.Mode.{Mode}
-use Rattle.sdc_base.specs.declared.memory.At.{At}
-use Rattle.sdc_model.specs.Bytes.{is_bracketed, is_name_byte, is_plain}
+use Rattle.sdc_model.specs.Bytes.{is_name_byte, is_plain}
 use Rattle.sdc_model.specs.ClockFile.{SaysMode, SoFar, clock_mode, do_all, is_name, mode_of, or_fault}
-use Rattle.sdc_model.specs.Commands.{AreCommands, IsWord, Splits}
-use Rattle.sdc_model.specs.PrintedCommands.{AreSpelled, AreSpelledLines, commands_of, word_of}
-use Rattle.sdc_model.specs.PrintedFile.{ArePrintableClocks, IsPrintableWave, clock_line, clock_lines, group_line, group_lines, header_lines, lines_of_form, lines_of_group, unit_text}
+use Rattle.sdc_model.specs.Commands.{IsWord}
+use Rattle.sdc_model.specs.PrintedCommands.{AreSpelledLines, commands_of, word_of}
+use Rattle.sdc_model.specs.PrintedFile.{ArePrintableClocks, clock_line, clock_lines, header_lines, lines_of_form, unit_text}
 use Rattle.sdc_model.specs.PrintedLine.{PrintedWord, bare, braced, is_bare_text, lines_text, name_word, spaced, spelled}
 use Rattle.sdc_print.proofs.ClockLines.{Goes, line_of_form}
 use Rattle.sdc_print.proofs.CommandFacts.{lines_are_commands}
-use Rattle.sdc_print.proofs.FileText.{IsItem, all_append, all_pass, bare_spelled, braced_spelled, item_braced, items_braced, lines_are_text, spelled_append}
+use Rattle.sdc_print.proofs.FileText.{IsItem, all_pass, bare_spelled, braced_spelled, item_braced, items_braced, lines_are_text, spelled_append}
 use Rattle.sdc_print.proofs.RunFacts.{by_bool}
 use Rattle.sdc_print.proofs.WaveText.{WaveText, ns, wave_text}
 
@@ -68,13 +63,29 @@ name_spelled name i =
 clock_line_spelled : (name : List ℕ) (wave : Wave) → IsItem name → WaveText wave → AreSpelledLines (clock_line ns name wave ∷ [])
 unfolding clock_line
 clock_line_spelled name wave item t =
-  let edges : List (List ℕ) = time_text_of wave.rise ns ∷ time_text_of wave.fall ns ∷ [] in (
-  lit< tt,
-  (bare_spelled (codes "create_clock") (lit< tt) refl, (bare_spelled (codes "-name") (lit< tt) refl, (name_spelled name item,
-  (bare_spelled (codes "-period") (lit< tt) refl, (item_spelled (time_text_of wave.period ns) t.period, (bare_spelled (codes "-waveform") (lit< tt) refl,
-  (braced_spelled (spaced edges) (items_braced edges t.edges), tt))))))),
-  tt,
-)
+    let edges : List (List ℕ) = time_text_of wave.rise ns ∷ time_text_of wave.fall ns ∷ [] in (
+      lit< tt,
+      (
+        bare_spelled (codes "create_clock") (lit< tt) refl,
+        (
+          bare_spelled (codes "-name") (lit< tt) refl,
+          (
+            name_spelled name item,
+            (
+              bare_spelled (codes "-period") (lit< tt) refl,
+              (
+                item_spelled (time_text_of wave.period ns) t.period,
+                (
+                  bare_spelled (codes "-waveform") (lit< tt) refl,
+                  (braced_spelled (spaced edges) (items_braced edges t.edges), tt),
+                ),
+              ),
+            ),
+          ),
+        ),
+      ),
+      tt,
+    )
 
 pub clocks_spelled : (clocks before : List Clock) → ArePrintableClocks before clocks → AreSpelledLines (clock_lines ns clocks)
 clocks_spelled [] before a = tt

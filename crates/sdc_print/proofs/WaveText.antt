@@ -1,32 +1,24 @@
 -- The texts of a printed clock, read again: the items of a list, its times and its waveform.
-use Rattle.std.proofs.Common.{◌≡◌, ◌<◌, ◌≤◌, ◌+◌, ◌-◌, ◌%◌, ◌^◌, ◌&&◌, ◌||◌, ◌==◌, ◌⊎◌, ℕ, zero, suc, ℤ, pos, negsuc, Bool, true, false, not, cond, IsTrue, List, [], ◌∷◌, ◌++◌, length, map, codes, nat_lt, nat_le, Option, Some, None, Result, Ok, refl, sym, ◌∙◌, ap, subst, inl, inr, arith, append_assoc, append-nil, lit≤}
+use Rattle.std.proofs.Common.{◌≡◌, ◌<◌, ◌≤◌, ◌+◌, ◌-◌, ◌%◌, ◌^◌, ℕ, ℤ, pos, negsuc, true, false, List, [], ◌∷◌, ◌++◌, length, nat_lt, nat_le, Some, Result, refl, sym, ◌∙◌, ap, inr, arith, append-nil}
 use Rattle.std.proofs.lemmas.Bool.{and_parts}
 use Rattle.std.proofs.lemmas.Bool.Decides.{nat_tests}
 use Rattle.std.proofs.lemmas.Int.{ints}
-use Rattle.std.proofs.lemmas.List.{map-append}
 use Rattle.std.proofs.Math.Nat.{mod-eq_of_lt}
 use Rattle.std.specs.Int.RustNames.{unsigned_abs}
 use Rattle.std.specs.List.{list_all}
 use Rattle.std.specs.Option.{option_and_then}
-use Rattle.sdc_base.specs.Number.{Number, read_number}
+use Rattle.sdc_base.specs.Number.{Number}
 use Rattle.sdc_base.specs.declared.fixed.NumberError.{NumberError}
 use Rattle.sdc_base.specs.NumberLaws.{IsTimeText, ReadsBack, is_time_byte}
-use Rattle.sdc_base.specs.Time.{IsUnit, time_text_of}
+use Rattle.sdc_base.specs.Time.{time_text_of}
 use Rattle.sdc_base.proofs.ReadBackFacts.{time_text_plain, time_text_reads_back}
-use Rattle.sdc_model.specs.declared.clocks.Clock.{Clock}
 use Rattle.sdc_model.specs.declared.clocks.Wave.{Wave}
-use Rattle.sdc_model.specs.declared.commands.Part.{Part}
-use Rattle.sdc_model.specs.declared.commands.Part.TheVariants as part
-use Rattle.sdc_model.specs.declared.commands.Word.{Word}
-use Rattle.sdc_model.specs.Bytes.{is_blank, is_plain, line_after}
-use Rattle.sdc_model.specs.ClockFile.{SoFar, is_name, is_taken, virtual_clock, with_clock, wave_given, waved_clock, does, do_all}
-use Rattle.sdc_model.specs.ClockGroups.{Groups}
+use Rattle.sdc_model.specs.Bytes.{is_blank, is_plain}
+use Rattle.sdc_model.specs.ClockFile.{wave_given}
 use Rattle.sdc_model.specs.Items.{Parted, all_items, items, parted}
-use Rattle.sdc_model.specs.PrintedCommands.{commands_of, word_of}
-use Rattle.sdc_model.specs.PrintedFile.{ArePrintableClocks, IsPrintableWave, clock_line, clock_lines, header_lines, lines_of_form, unit_text, without_line}
-use Rattle.sdc_model.specs.PrintedLine.{PrintedWord, bare, braced, is_bare_text, line_text, name_word, spaced}
-use Rattle.sdc_model.specs.Waveform.{nanoseconds, period_of, time_from, time_in, time_within, wave_of, wave_within, waveform_of}
-use Rattle.sdc_model.specs.Words.{is_text, same_text}
+use Rattle.sdc_model.specs.PrintedFile.{IsPrintableWave}
+use Rattle.sdc_model.specs.PrintedLine.{spaced}
+use Rattle.sdc_model.specs.Waveform.{nanoseconds, time_from, time_in, time_within, wave_of, wave_within, waveform_of}
 use Rattle.sdc_print.proofs.FileText.{AreItems, IsItem, all_pass}
 
 plain_not_blank : (b : ℕ) → is_plain b ≡ true → is_blank b ≡ false

@@ -6,7 +6,7 @@ use Rattle.sdc_model.specs.ClockFile.{SaysMode}
 use Rattle.sdc_model.specs.PrintedFile.{IsPrintable, printed_file, without_lines}
 
 -- the file of a printable mode in nanoseconds says this mode, apart from the lines of its clocks
-abbrev pub ReadsBack : Design → Mode → Type 0
-ReadsBack design mode =
+abbrev pub FileReadsBack : Design → Mode → Type 0
+FileReadsBack design mode =
     IsPrintable design mode → design.unit ≡ pos 1000000 →
     (said : Mode) × SaysMode (printed_file design mode) (Ok said) × (without_lines said ≡ without_lines mode)
