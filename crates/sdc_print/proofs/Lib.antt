@@ -1,6 +1,13 @@
 pub mod AddedFacts
+pub mod ClockLines
 pub mod CommandFacts
+pub mod FileReads
+pub mod FileText
 pub mod GroupFacts
+pub mod GroupLines
+pub mod GroupPairs
 pub mod LineFacts
 pub mod PrintableFacts
+pub mod PrintedFacts
 pub mod RunFacts
+pub mod WaveText

@@ -7,11 +7,11 @@ use Rattle.sdc_model.specs.declared.clocks.Pair.{Pair}
 use Rattle.sdc_model.specs.PrintedFile.{exclusive_to, ArePairs, IsBehind}
 use Rattle.sdc_print.specs.Runs.{run_length, seconds}
 
-by_bool : (P : Bool → Type 0) (b : Bool) → (b ≡ true → P true) → (b ≡ false → P false) → P b
+pub by_bool : (P : Bool → Type 0) (b : Bool) → (b ≡ true → P true) → (b ≡ false → P false) → P b
 by_bool P true t f = t refl
 by_bool P false t f = f refl
 
-same_or_not : (m n : ℕ) → (m ≡ n) ⊎ (m ≡ n → ⊥)
+pub same_or_not : (m n : ℕ) → (m ≡ n) ⊎ (m ≡ n → ⊥)
 same_or_not m n =
     by_bool (λ b. nat_eq m n ≡ b → (m ≡ n) ⊎ (m ≡ n → ⊥)) (nat_eq m n)
     (λ _ t. inl (grind (arith, nat_tests))) (λ _ t. inr (λ e. grind (arith, nat_tests))) refl
@@ -39,10 +39,10 @@ run_stops place pairs i d h p =
 pub run_ends : (place : ℕ) (pairs : List Pair) (i : ℕ) → length pairs ≤ i → run_length place (drop i pairs) ≡ 0
 run_ends place pairs i h = ap (run_length place) (drop_all i pairs h) ∙ run_none place
 
-exclusive_same : (place : ℕ) (pair : Pair) (pairs : List Pair) → pair.first ≡ place → exclusive_to place (pair ∷ pairs) ≡ pair.second ∷ exclusive_to place pairs
+pub exclusive_same : (place : ℕ) (pair : Pair) (pairs : List Pair) → pair.first ≡ place → exclusive_to place (pair ∷ pairs) ≡ pair.second ∷ exclusive_to place pairs
 exclusive_same place pair pairs e = let t : nat_eq pair.first place ≡ true = grind (arith, nat_tests) in rw t refl
 
-exclusive_other : (place : ℕ) (pair : Pair) (pairs : List Pair) → (pair.first ≡ place → ⊥) → exclusive_to place (pair ∷ pairs) ≡ exclusive_to place pairs
+pub exclusive_other : (place : ℕ) (pair : Pair) (pairs : List Pair) → (pair.first ≡ place → ⊥) → exclusive_to place (pair ∷ pairs) ≡ exclusive_to place pairs
 exclusive_other place pair pairs e = let t : nat_eq pair.first place ≡ false = grind (arith, nat_tests) in rw t refl
 
 -- no first place is below a number
@@ -55,14 +55,14 @@ all_from_zero [] = tt
 all_from_zero (pair ∷ pairs) = (omega arith, all_from_zero pairs)
 
 -- behind a pair no first place is below its own
-are_behind : (count : ℕ) (pair : Pair) (pairs : List Pair) (low : ℕ) → low ≤ pair.first → IsBehind pair pairs → ArePairs count pairs → AreFrom low pairs
+pub are_behind : (count : ℕ) (pair : Pair) (pairs : List Pair) (low : ℕ) → low ≤ pair.first → IsBehind pair pairs → ArePairs count pairs → AreFrom low pairs
 are_behind count pair [] low h b o = tt
 are_behind count pair (next ∷ pairs) low h b o =
     let n : low ≤ next.first = elim b [ inl l ↦ omega arith | inr e ↦ omega (arith, e.0) ] in
     (n, are_behind count next pairs low n o.2 o.3)
 
 -- the clocks that are exclusive to one are the run of its pairs
-none_from : (place : ℕ) (pairs : List Pair) → AreFrom (suc place) pairs → exclusive_to place pairs ≡ []
+pub none_from : (place : ℕ) (pairs : List Pair) → AreFrom (suc place) pairs → exclusive_to place pairs ≡ []
 none_from place [] f = refl
 none_from place (pair ∷ pairs) f =
     let n : pair.first ≡ place → ⊥ = λ e. omega (arith, f.0) in

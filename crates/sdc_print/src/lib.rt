@@ -6,6 +6,7 @@
 #![tactic(auto)]
 
 mod clock_printing;
+mod file_law;
 mod group_printing;
 mod line_laws;
 #[cfg(test)]
@@ -16,5 +17,6 @@ mod sinks;
 mod tests;
 mod word_printing;
 
+pub use file_law::printed_files_read_back;
 pub use line_laws::lines_are_commands;
 pub use printing::{print, printed_length};

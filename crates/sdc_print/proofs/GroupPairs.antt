@@ -1,0 +1,201 @@
+-- The pairs that the groups of a mode's lines make exclusive are the mode's pairs, in order.
+use Rattle.std.proofs.Common.{◌≡◌, ◌<◌, ◌≤◌, ◌+◌, ◌&&◌, ◌||◌, ℕ, zero, suc, Bool, true, false, List, [], ◌∷◌, ◌++◌, length, map, drop, nat_eq, refl, sym, ◌∙◌, ap, subst, inl, inr, arith}
+use Rattle.std.proofs.lemmas.Bool.Decides.{nat_tests}
+use Rattle.sdc_model.specs.declared.clocks.Clock.{Clock}
+use Rattle.sdc_model.specs.declared.clocks.Pair.{Pair}
+use Rattle.sdc_model.specs.ClockGroups.{Groups, exclusive_pairs, is_among, is_parted, pairs_from, pairs_with}
+use Rattle.sdc_model.specs.PrintedFile.{ArePairs, IsBehind, exclusive_to}
+use Rattle.sdc_print.specs.Runs.{run_length}
+use Rattle.sdc_print.proofs.RunFacts.{AreFrom, TakesRun, all_from_zero, are_behind, exclusive_other, exclusive_same, later_without_run, none_from, run_none, run_other, run_same, same_or_not, takes_run}
+
+-- the groups of a line, and of the lines from a place on
+abbrev pub groups_of : ℕ → List ℕ → List Groups
+groups_of place [] = []
+groups_of place (other ∷ others) = record { first = place ∷ []; second = other ∷ others } ∷ []
+
+abbrev pub groups_from : List Pair → ℕ → List Clock → List Groups
+groups_from pairs place [] = []
+groups_from pairs place (clock ∷ clocks) = groups_of place (exclusive_to place pairs) ++ groups_from pairs (suc place) clocks
+
+-- places above one, below a number
+abbrev pub AreWithin : ℕ → ℕ → List ℕ → Type 0
+AreWithin low count [] = Unit {0}
+AreWithin low count (place ∷ places) = (low < place) × (place < count) × AreWithin low count places
+
+pub exclusive_within : (count place : ℕ) (pairs : List Pair) → ArePairs count pairs → AreWithin place count (exclusive_to place pairs)
+exclusive_within count place [] o = tt
+exclusive_within count place (pair ∷ pairs) o =
+    elim (same_or_not pair.first place) [
+      | inl e ↦
+          let within : AreWithin place count (pair.second ∷ exclusive_to place pairs) = (omega (arith, e, o.0), o.1, exclusive_within count place pairs o.3) in
+          subst (AreWithin place count) (sym (exclusive_same place pair pairs e)) within
+      | inr n ↦ subst (AreWithin place count) (sym (exclusive_other place pair pairs n)) (exclusive_within count place pairs o.3)
+    ]
+
+differ : (m n : ℕ) → (m ≡ n → ⊥) → nat_eq m n ≡ false
+differ m n h = grind (arith, nat_tests)
+
+same : (m n : ℕ) → m ≡ n → nat_eq m n ≡ true
+same m n h = grind (arith, nat_tests)
+
+none_below : (i low count : ℕ) (places : List ℕ) → i ≤ low → AreWithin low count places → is_among i places ≡ false
+none_below i low count [] h w = refl
+none_below i low count (place ∷ places) h w =
+    let n : nat_eq place i ≡ false = differ place i (λ e. omega (arith, e, w.0)) in
+    rw n (none_below i low count places h w.2)
+
+-- ---- which clocks the groups part
+
+and_false : (b : Bool) → (b && false) ≡ false
+and_false true = refl
+and_false false = refl
+
+or_false : (b : Bool) → (b || false) ≡ b
+or_false true = refl
+or_false false = refl
+
+-- one line's groups part its clock from the others
+parted_line : (place count i j : ℕ) (others : List ℕ) (rest : List Groups) → i < j → AreWithin place count others
+    → is_parted (groups_of place others ++ rest) i j ≡ ((nat_eq place i && is_among j others) || is_parted rest i j)
+parted_line place count i j [] rest h w = ap (λ (b : Bool). b || is_parted rest i j) (sym (and_false (nat_eq place i)))
+parted_line place count i j (other ∷ others) rest h w =
+    let a = is_among j (other ∷ others) in
+    let other_way : ((nat_eq place j || false) && is_among i (other ∷ others)) ≡ false =
+    elim (same_or_not place j) [
+      | inl e ↦
+          let none : is_among i (other ∷ others) ≡ false = none_below i place count (other ∷ others) (omega (arith, e, h)) w in
+          ap (λ (b : Bool). (nat_eq place j || false) && b) none ∙ and_false (nat_eq place j || false)
+      | inr n ↦ ap (λ (b : Bool). (b || false) && is_among i (other ∷ others)) (differ place j n)
+    ] in
+    ap (λ (b : Bool). (((nat_eq place i || false) && a) || b) || is_parted rest i j) other_way
+    ∙ (ap (λ (b : Bool). ((b && a) || false) || is_parted rest i j) (or_false (nat_eq place i))
+    ∙ ap (λ (b : Bool). b || is_parted rest i j) (or_false (nat_eq place i && a)))
+
+none_before : (pairs : List Pair) (count place i j : ℕ) (clocks : List Clock) → i < j → i < place → ArePairs count pairs → is_parted (groups_from pairs place clocks) i j ≡ false
+none_before pairs count place i j [] h k o = refl
+none_before pairs count place i j (clock ∷ clocks) h k o =
+    parted_line place count i j (exclusive_to place pairs) (groups_from pairs (suc place) clocks) h (exclusive_within count place pairs o)
+    ∙ (ap (λ (b : Bool). (b && is_among j (exclusive_to place pairs)) || is_parted (groups_from pairs (suc place) clocks) i j) (differ place i (λ e. omega (arith, e, k)))
+    ∙ none_before pairs count (suc place) i j clocks h (omega arith) o)
+
+pub parted_is : (pairs : List Pair) (count place i j : ℕ) (clocks : List Clock) → i < j → place ≤ i → i < place + length clocks → ArePairs count pairs
+    → is_parted (groups_from pairs place clocks) i j ≡ is_among j (exclusive_to i pairs)
+parted_is pairs count place i j [] h k l o = absurd (omega arith)
+parted_is pairs count place i j (clock ∷ clocks) h k l o =
+    let rest = groups_from pairs (suc place) clocks in
+    parted_line place count i j (exclusive_to place pairs) rest h (exclusive_within count place pairs o)
+    ∙ elim (same_or_not place i) [
+      | inl e ↦
+          ap (λ (b : Bool). (b && is_among j (exclusive_to place pairs)) || is_parted rest i j) (same place i e)
+          ∙ (ap (λ (b : Bool). is_among j (exclusive_to place pairs) || b) (none_before pairs count (suc place) i j clocks h (omega (arith, e)) o)
+          ∙ (or_false (is_among j (exclusive_to place pairs)) ∙ ap (λ (n : ℕ). is_among j (exclusive_to n pairs)) e))
+      | inr n ↦
+          ap (λ (b : Bool). (b && is_among j (exclusive_to place pairs)) || is_parted rest i j) (differ place i n)
+          ∙ parted_is pairs count (suc place) i j clocks h (omega (arith, n)) (omega arith) o
+    ]
+
+-- ---- pairs in order
+
+abbrev pub pairs_of : ℕ → List ℕ → List Pair
+pairs_of place seconds = map (λ (second : ℕ). record { first = place; second = second }) seconds
+
+-- rising places, from a least one on and below an end
+abbrev pub Rises : ℕ → ℕ → List ℕ → Type 0
+Rises low end [] = Unit {0}
+Rises low end (place ∷ places) = (low ≤ place) × (place < end) × Rises (suc place) end places
+
+rises_above : (j low end : ℕ) (places : List ℕ) → j < low → Rises low end places → is_among j places ≡ false
+rises_above j low end [] h r = refl
+rises_above j low end (place ∷ places) h r =
+    let n : nat_eq place j ≡ false = differ place j (λ e. omega (arith, e, r.0)) in
+    rw n (rises_above j (suc place) end places (omega (arith, r.0)) r.2)
+
+-- what a clock's row of pairs is, where it is parted from just these later ones
+row_is : (groups : List Groups) (i j more end : ℕ) (places : List ℕ) → end ≡ j + more → ((b : ℕ) → j ≤ b → is_parted groups i b ≡ is_among b places) → Rises j end places
+    → pairs_with groups i j more ≡ pairs_of i places
+row_is groups i j zero end [] e p r = refl
+row_is groups i j zero end (place ∷ places) e p r = absurd (omega (arith, r.0, r.1))
+row_is groups i j (suc more) end [] e p r =
+    let none : is_parted groups i j ≡ false = p j (omega arith) in
+    rw none (row_is groups i (j + 1) more end [] (omega arith) (λ b h. p b (omega arith)) tt)
+row_is groups i j (suc more) end (place ∷ places) e p r =
+    elim (same_or_not place j) [
+      | inl s ↦
+          let here : is_parted groups i j ≡ true = p j (omega arith) ∙ ap (λ (b : Bool). b || is_among j places) (same place j s) in
+          let later : (b : ℕ) → j + 1 ≤ b → is_parted groups i b ≡ is_among b places =
+          λ b h. p b (omega arith) ∙ ap (λ (t : Bool). t || is_among b places) (differ place b (λ f. omega (arith, f, s, h))) in
+          let others = row_is groups i (j + 1) more end places (omega arith) later (subst (λ (n : ℕ). Rises n end places) (omega (arith, s)) r.2) in
+          rw here (ap (λ (n : ℕ). let q : List Pair = record { first = i; second = n } ∷ pairs_with groups i (j + 1) more in q) (sym s)
+          ∙ ap (λ (ps : List Pair). let q : List Pair = record { first = i; second = place } ∷ ps in q) others)
+      | inr n ↦
+          let above : j < place = omega (arith, n, r.0) in
+          let none : is_parted groups i j ≡ false =
+          p j (omega arith) ∙ rises_above j (suc j) end (place ∷ places) (omega arith) (above, r.1, r.2) in
+          rw none (row_is groups i (j + 1) more end (place ∷ places) (omega arith) (λ b h. p b (omega arith)) (omega (arith, above), r.1, r.2))
+    ]
+
+-- the later clocks of one rise, where no pair has an earlier first clock
+abbrev pub BeginsAt : ℕ → ℕ → List Pair → Type 0
+BeginsAt place low [] = Unit {0}
+BeginsAt place low (pair ∷ pairs) = pair.first ≡ place → low ≤ pair.second
+
+begins_behind : (place : ℕ) (pair : Pair) (pairs : List Pair) → pair.first ≡ place → IsBehind pair pairs → BeginsAt place (suc pair.second) pairs
+begins_behind place pair [] e b = tt
+begins_behind place pair (next ∷ pairs) e b = λ f. elim b [ inl l ↦ absurd (omega (arith, e, f, l)) | inr r ↦ omega (arith, r.1) ]
+
+begins_above : (count place : ℕ) (pairs : List Pair) → ArePairs count pairs → BeginsAt place (place + 1) pairs
+begins_above count place [] o = tt
+begins_above count place (pair ∷ pairs) o = λ e. omega (arith, e, o.0)
+
+others_rise : (count place low : ℕ) (pairs : List Pair) → ArePairs count pairs → AreFrom place pairs → BeginsAt place low pairs → Rises low count (exclusive_to place pairs)
+others_rise count place low [] o f b = tt
+others_rise count place low (pair ∷ pairs) o f b =
+    elim (same_or_not pair.first place) [
+      | inl e ↦
+          let rises : Rises low count (pair.second ∷ exclusive_to place pairs) =
+          (b e, o.1, others_rise count place (suc pair.second) pairs o.3 f.1 (begins_behind place pair pairs e o.2)) in
+          subst (Rises low count) (sym (exclusive_same place pair pairs e)) rises
+      | inr n ↦ subst (Rises low count) (sym (exclusive_other place pair pairs n ∙ none_from place pairs (are_behind count pair pairs (suc place) (omega (arith, n, f.0)) o.2 o.3))) tt
+    ]
+
+-- pairs are the run of a place and those behind it
+run_and_rest : (count place : ℕ) (pairs : List Pair) → ArePairs count pairs → AreFrom place pairs → pairs ≡ pairs_of place (exclusive_to place pairs) ++ drop (run_length place pairs) pairs
+run_and_rest count place [] o f = ap (λ (k : ℕ). let q : List Pair = drop k [] in q) (sym (run_none place))
+run_and_rest count place (pair ∷ pairs) o f =
+    elim (same_or_not pair.first place) [
+      | inl e ↦
+          let first : Pair = record { first = place; second = pair.second } in
+          let is : pair ≡ first = ap (λ (n : ℕ). let q : Pair = record { first = n; second = pair.second } in q) e in
+          ap (λ (p : Pair). p ∷ pairs) is
+          ∙ (ap (λ (ps : List Pair). first ∷ ps) (run_and_rest count place pairs o.3 f.1)
+          ∙ (ap (λ (os : List ℕ). pairs_of place os ++ drop (run_length place pairs) pairs) (sym (exclusive_same place pair pairs e))
+          ∙ ap (λ (k : ℕ). pairs_of place (exclusive_to place (pair ∷ pairs)) ++ drop k (pair ∷ pairs)) (sym (run_same place pair pairs e))))
+      | inr n ↦
+          let above : suc place ≤ pair.first = omega (arith, n, f.0) in
+          let none : exclusive_to place (pair ∷ pairs) ≡ [] = none_from place (pair ∷ pairs) (above, are_behind count pair pairs (suc place) above o.2 o.3) in
+          ap (λ (os : List ℕ). pairs_of place os ++ (pair ∷ pairs)) (sym none)
+          ∙ ap (λ (k : ℕ). pairs_of place (exclusive_to place (pair ∷ pairs)) ++ drop k (pair ∷ pairs)) (sym (run_other place pair pairs n))
+    ]
+
+-- the pairs from a place on, where the groups part just these
+pairs_are : (groups : List Groups) (count i more : ℕ) (pairs : List Pair) → i + more ≡ count → ArePairs count pairs → AreFrom i pairs
+    → ((a b : ℕ) → i ≤ a → a < count → a < b → is_parted groups a b ≡ is_among b (exclusive_to a pairs)) → pairs_from groups i more ≡ pairs
+pairs_are groups count i zero [] e o f p = refl
+pairs_are groups count i zero (pair ∷ pairs) e o f p = absurd (omega (arith, o.0, o.1, f.0))
+pairs_are groups count i (suc more) pairs e o f p =
+    let rest = drop (run_length i pairs) pairs in
+    let taken : TakesRun count i (run_length i pairs) pairs = takes_run count i pairs o f in
+    let row = row_is groups i (i + 1) more count (exclusive_to i pairs) (omega arith) (λ b h. p i b (omega arith) (omega arith) (omega arith))
+    (others_rise count i (i + 1) pairs o f (begins_above count i pairs o)) in
+    let next : suc i ≡ i + 1 = omega arith in
+    let later : (a b : ℕ) → i + 1 ≤ a → a < count → a < b → is_parted groups a b ≡ is_among b (exclusive_to a rest) =
+    λ a b h k l. p a b (omega arith) k l ∙ ap (is_among b) (later_without_run i a pairs (omega arith)) in
+    let others = pairs_are groups count (i + 1) more rest (omega arith) taken.order (subst (λ (n : ℕ). AreFrom n rest) next taken.above) later in
+    ap (λ (ps : List Pair). ps ++ pairs_from groups (i + 1) more) row
+    ∙ (ap (λ (ps : List Pair). pairs_of i (exclusive_to i pairs) ++ ps) others ∙ sym (run_and_rest count i pairs o f))
+
+-- the exclusive pairs of the groups of all lines
+pub exclusive_are : (clocks : List Clock) (pairs : List Pair) → ArePairs (length clocks) pairs → exclusive_pairs (groups_from pairs 0 clocks) (length clocks) ≡ pairs
+exclusive_are clocks pairs o =
+    pairs_are (groups_from pairs 0 clocks) (length clocks) 0 (length clocks) pairs (omega arith) o (all_from_zero pairs)
+    (λ a b h k l. parted_is pairs (length clocks) 0 a b clocks l h (omega arith) o)
