@@ -17,7 +17,7 @@ mod standings;
 #[cfg(test)]
 mod tests;
 
-ghost use Rattle.std.specs.Prelude.{◌≤◌, ◌^◌, IfOk};
+ghost use Rattle.std.specs.Prelude.{◌≤◌, ◌^◌, length, IfOk};
 ghost use Rattle.sdc_model.specs.ClockIdentity.{IsClockMap};
 ghost use Rattle.sdc_model.specs.PlainViews.{ModesArePrimary, HaveWaves, clock_count};
 
@@ -39,7 +39,8 @@ pub fn map_clocks(alloc: Global, modes: &List<View>) -> Result<ClockMap, NoMemor
     requires primary { ModesArePrimary modes.now }
     requires waves { HaveWaves modes.now }
     requires few { clock_count modes.now ≤ 2 ^ 32 }
-    ensures { IfOk result (IsClockMap modes.now) }
+    ensures map { IfOk result (IsClockMap modes.now) }
+    ensures few { IfOk result (λ map. length map.clocks ≤ clock_count modes.now) }
 {
     let (standings, identities) = all_clocks::all_clocks(alloc, modes)?;
     let numbers = numbering::numbers_of(alloc, &identities)?;

@@ -1,6 +1,6 @@
 //! The merged clocks, each made of the first clock that it is.
 
-ghost use Rattle.std.specs.Prelude.{◌≡◌, length, IfOk, OnOk};
+ghost use Rattle.std.specs.Prelude.{◌≡◌, ◌≤◌, length, IfOk, OnOk};
 ghost use Rattle.sdc_model.specs.ClockIdentity as identity;
 ghost use Rattle.clock_map.specs.MergedClocks.{HaveSameNames, AddsMerged, Rises, AreMerged};
 
@@ -26,7 +26,9 @@ pub(crate) fn merged_clocks(
 ) -> Result<Merged, NoMemory>
     requires beside { length numbers.now ≡ length standings.now }
     requires rises { Rises numbers.now }
-    ensures { IfOk result (λ merged. AreMerged standings.now numbers.now merged.clocks merged.waves) }
+    ensures merged { IfOk result
+        (λ merged. AreMerged standings.now numbers.now merged.clocks merged.waves) }
+    ensures few { IfOk result (λ merged. length merged.clocks ≤ length numbers.now) }
 {
     let own = own_names(alloc, standings)?;
     let standings = standings.as_slice();

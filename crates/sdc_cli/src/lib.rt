@@ -16,6 +16,7 @@ mod file_inputs;
 mod file_outputs;
 mod items;
 mod merge_rows;
+mod merges;
 mod mode_file;
 mod mode_files;
 mod mode_so_far;

@@ -11,7 +11,8 @@ use Rattle.sdc_model.specs.Bytes.{line_after}
 use Rattle.sdc_model.specs.ClockFile.{SoFar, is_name, is_taken, virtual_clock, with_clock, waved_clock, does, do_all}
 use Rattle.sdc_model.specs.ClockGroups.{Groups}
 use Rattle.sdc_model.specs.PrintedCommands.{commands_of, word_of}
-use Rattle.sdc_model.specs.PrintedFile.{ArePrintableClocks, IsPrintableWave, clock_line, clock_lines, header_lines, lines_of_form, unit_text, without_line}
+use Rattle.sdc_model.specs.PlainViews.{without_line}
+use Rattle.sdc_model.specs.PrintedFile.{ArePrintableClocks, IsPrintableWave, clock_line, clock_lines, header_lines, lines_of_form, unit_text}
 use Rattle.sdc_model.specs.PrintedLine.{PrintedWord, bare, braced, is_bare_text, line_text, name_word, spaced}
 use Rattle.sdc_model.specs.Words.{is_text, same_text}
 use Rattle.sdc_print.proofs.RunFacts.{by_bool}

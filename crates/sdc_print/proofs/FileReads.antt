@@ -8,7 +8,8 @@ use Rattle.sdc_model.specs.declared.modes.Mode.{Mode}
 use Rattle.sdc_model.specs.ClockFile.{SaysMode, SoFar, clock_mode}
 use Rattle.sdc_model.specs.ClockGroups.{Groups, exclusive_pairs}
 use Rattle.sdc_model.specs.PrintedCommands.{AreSpelledLines}
-use Rattle.sdc_model.specs.PrintedFile.{IsPrintable, clock_lines, group_lines, header_lines, printed_file, without_line, without_lines}
+use Rattle.sdc_model.specs.PlainViews.{without_line}
+use Rattle.sdc_model.specs.PrintedFile.{IsPrintable, clock_lines, group_lines, header_lines, printed_file, without_lines}
 use Rattle.sdc_model.specs.PrintedLine.{PrintedWord, lines_text}
 use Rattle.sdc_print.specs.FileLaw.{FileReadsBack}
 use Rattle.sdc_print.proofs.ClockLines.{Goes, Said, clock_lines_go, goes_on, header_goes}

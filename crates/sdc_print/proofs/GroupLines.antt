@@ -11,7 +11,8 @@ use Rattle.sdc_model.specs.Bytes.{is_braced, is_bracketed}
 use Rattle.sdc_model.specs.ClockFile.{SoFar, does, grouped, is_taken, with_groups}
 use Rattle.sdc_model.specs.ClockGroups.{Groups, before_brace, group_of, place_from, places_of}
 use Rattle.sdc_model.specs.PrintedCommands.{AreSpelledLines, word_of}
-use Rattle.sdc_model.specs.PrintedFile.{ArePairs, ArePrintableClocks, exclusive_to, group_line, group_lines, lines_of_group, name_of, names_at, without_line}
+use Rattle.sdc_model.specs.PlainViews.{without_line}
+use Rattle.sdc_model.specs.PrintedFile.{ArePairs, ArePrintableClocks, exclusive_to, group_line, group_lines, lines_of_group, name_of, names_at}
 use Rattle.sdc_model.specs.PrintedLine.{bare, list_word, spaced, words_text}
 use Rattle.sdc_model.specs.Words.{is_text, same_text}
 use Rattle.sdc_print.proofs.ClockLines.{Goes, Said, goes_line, goes_none, goes_on}

@@ -23,8 +23,15 @@ rows_of-requires c =
     c.in_ok-numbers.ensures.length_is
     ∙ ap length c.in_ok-standings.ensures.identities ∙ length-identities_of c.args.modes.now c.requires.waves
 
-pub returns : goal.returns
-returns c =
+pub returns-clause-map : goal.returns-clause-map
+returns-clause-map c =
     is_map c.args.modes.now c.in_ok-standings.standings c.in_ok-standings.identities c.in_ok-numbers.numbers _ c.requires.primary c.requires.waves
-    c.in_ok-standings.ensures.standings c.in_ok-standings.ensures.identities c.in_ok-numbers.ensures c.in_ok-merged.ensures
+    c.in_ok-standings.ensures.standings c.in_ok-standings.ensures.identities c.in_ok-numbers.ensures c.in_ok-merged.ensures.merged
     c.in_ok-maps.ensures.all c.in_ok-maps.ensures.shape
+
+pub returns-clause-few : goal.returns-clause-few
+returns-clause-few c =
+    let many : length c.in_ok-numbers.numbers ≡ clock_count c.args.modes.now =
+    c.in_ok-numbers.ensures.length_is
+    ∙ ap length c.in_ok-standings.ensures.identities ∙ length-identities_of c.args.modes.now c.requires.waves in
+    rw (← many) c.in_ok-merged.ensures.few
