@@ -15,6 +15,8 @@ mod file_outputs;
 mod mode_file;
 mod mode_files;
 mod outputs;
+#[cfg(test)]
+mod report_tests;
 mod report_tree;
 mod reports;
 mod tool;
