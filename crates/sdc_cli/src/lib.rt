@@ -22,6 +22,8 @@ mod mode_files;
 mod mode_so_far;
 mod named_clocks;
 mod outputs;
+#[cfg(test)]
+mod report_tests;
 mod report_tree;
 mod reports;
 mod tool;

@@ -16,11 +16,9 @@ use std::alloc::Global;
 pub fn report_bytes(alloc: Global, report: &Report) -> Result<List<u8>, NoMemory>
     ensures { IfOk result (λ bytes. bytes ≡ report_bytes report.now) }
 {
-    let text = tree(alloc, report)?.to_string(alloc)?;
-    let mut bytes = List::new(alloc);
-    bytes.extend_from_slice(text.as_bytes())?;
-    bytes.extend_from_slice(b"\n")?;
-    Ok(bytes)
+    let mut bytes = tree(alloc, report)?.to_vec(alloc)?;
+    bytes.push(b'\n')?;
+    Ok(List::from(bytes))
 }
 
 /// A report as a JSON value, objects with their keys in the order of their bytes. The one error is want of

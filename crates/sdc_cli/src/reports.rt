@@ -9,8 +9,8 @@ pub enum Report {
     Merge(MergeReport),
 }
 
-/// What a merge of modes did: the clocks of the merged mode, the endpoints at which it is looser or
-/// stricter than the modes, and the commands that it left out.
+/// What a merge of modes did: the clocks of the merged mode, the relations of endpoints that it times
+/// without need or too strictly, and the commands of the modes that it left out.
 #[derive(Debug, Drop, PartialEq, Eq, PartialOrd, Ord)]
 pub struct MergeReport {
     pub clocks: List<ClockRow>,
@@ -32,8 +32,8 @@ pub struct ModeClock {
     pub name: Text,
 }
 
-/// A relation at an endpoint where the merged mode asks for another limit than the modes do. Limits are
-/// femtoseconds; none is a relation that no mode times.
+/// A relation of an endpoint with a path that no mode times and the merged mode does, or that it times more
+/// strictly than every mode that times it. Edges are written `CLOCK rise`, nodes `r1/CK rise`.
 #[derive(Debug, Drop, PartialEq, Eq, PartialOrd, Ord)]
 pub struct ListedRow {
     pub end: Text,
@@ -41,9 +41,11 @@ pub struct ListedRow {
     pub capture: Text,
     /// `setup` or `hold`.
     pub side: Text,
-    /// The nodes of a path from the launch to the endpoint.
+    /// The nodes of one such path.
     pub path: List<Text>,
+    /// The limit of the merged mode on the path, in femtoseconds.
     pub merged: i64,
+    /// The strictest limit of a mode on the path, in femtoseconds; none where no mode times it.
     pub required: Option<i64>,
 }
 
