@@ -1,9 +1,15 @@
--- The maps of a clock map stand beside the modes that they are of.
-use Rattle.std.proofs.Common.{◌≡◌, ℕ, List, [], ◌∷◌, length, ap, suc, refl}
+-- What printable modes have, one behind the other, and what their merged mode has.
+use Rattle.std.proofs.Common.{◌≡◌, ◌++◌, ◌+◌, ℕ, List, [], ◌∷◌, length, ap, suc, refl, arith}
 use Rattle.std.specs.List.{AllZip}
+use Rattle.sdc_model.specs.declared.modes.Mode.{Mode}
 use Rattle.sdc_model.specs.declared.views.View.{View}
 use Rattle.sdc_model.specs.declared.views.ClockMap.{ClockMap}
 use Rattle.sdc_model.specs.ClockIdentity.{IsClockMap}
+use Rattle.sdc_model.specs.EdgesText.{ModesHaveTimes}
+use Rattle.sdc_model.specs.PlainViews.{clocks_in, views_of}
+use Rattle.sdc_model.specs.PrintedFile.{ArePrintableClocks, ModesArePrintable}
+use Rattle.sdc_cli.specs.MergeRows.{IsNumbered}
+use Rattle.sdc_cli.proofs.SaidClocks.{printable_has_times}
 
 all_zip_long : {A B : Type 0} (R : A → B → Type 0) (xs : List A) (ys : List B) → AllZip R xs ys → length ys ≡ length xs
 all_zip_long R [] [] all = refl
@@ -11,5 +17,28 @@ all_zip_long R [] (y ∷ ys) all = absurd all
 all_zip_long R (x ∷ xs) [] all = absurd all
 all_zip_long R (x ∷ xs) (y ∷ ys) all = ap suc (all_zip_long R xs ys all.1)
 
+-- the maps of a clock map stand beside the modes that they are of
 pub maps_long : (views : List View) (answer : ClockMap) → IsClockMap views answer → length answer.maps ≡ length views
 maps_long views answer is = all_zip_long _ views answer.maps is.shape
+
+pub printable-push : (modes : List Mode) (mode : Mode) → ModesArePrintable modes → ArePrintableClocks [] mode.clocks → ModesArePrintable (modes ++ mode ∷ [])
+printable-push [] mode have clocks = (clocks, tt)
+printable-push (m ∷ modes) mode have clocks = (have.0, printable-push modes mode have.1 clocks)
+
+pub clocks_in-push : (modes : List Mode) (mode : Mode) → clocks_in (modes ++ mode ∷ []) ≡ clocks_in modes + length mode.clocks
+clocks_in-push [] mode = omega arith
+clocks_in-push (m ∷ modes) mode = omega (arith, clocks_in-push modes mode)
+
+pub printable_have_times : (modes : List Mode) → ModesArePrintable modes → ModesHaveTimes modes
+printable_have_times [] have = tt
+printable_have_times (m ∷ modes) have = (printable_has_times m.clocks [] have.0, printable_have_times modes have.1)
+
+all_numbered : (modes : List Mode) (maps : List (List ℕ)) → AllZip (λ view numbers. length numbers ≡ length view.mode.clocks) (views_of modes) maps → AllZip IsNumbered modes maps
+all_numbered [] [] all = tt
+all_numbered [] (numbers ∷ maps) all = absurd all
+all_numbered (mode ∷ modes) [] all = absurd all
+all_numbered (mode ∷ modes) (numbers ∷ maps) all = (all.0, all_numbered modes maps all.1)
+
+-- each clock of each mode has the number of its merged clock
+pub maps_are_numbered : (modes : List Mode) (answer : ClockMap) → IsClockMap (views_of modes) answer → AllZip IsNumbered modes answer.maps
+maps_are_numbered modes answer is = all_numbered modes answer.maps is.shape

@@ -1,8 +1,9 @@
 //! The mode files of a command line, read one after the other.
 
-ghost use Rattle.std.specs.Prelude.{◌≡◌, ◌≤◌, ◌<◌, ◌^◌, ◌+◌, length, IfOk, IfErr};
+ghost use Rattle.std.specs.Prelude.{◌≡◌, ◌≤◌, ◌<◌, ◌^◌, ◌+◌, length, [], IfOk, IfErr};
 ghost use Rattle.sdc_model.specs.Answers.{files_of, first_place, most_clocks, OnTold, ReadsMode, ReadsModes, StopsAt, StopsReading};
-ghost use Rattle.sdc_model.specs.EdgesText.{HaveTimes, ModesHaveTimes};
+ghost use Rattle.sdc_model.specs.PlainViews.{clocks_in};
+ghost use Rattle.sdc_model.specs.PrintedFile.{ArePrintableClocks, ModesArePrintable};
 
 use crate::mode_file::read_mode;
 use sdc_base::{Inputs, List, ReadStop, Stop, Text, read_all};
@@ -21,7 +22,8 @@ pub fn read_modes<I: Inputs>(
         (StopsReading line.now (I.faults inputs.old) (I.faults inputs.new)) }
     ensures counts { I.faults inputs.old ≤ I.faults inputs.new }
     ensures each { IfOk result (λ modes. length modes ≡ length (files_of line.now)) }
-    ensures timed { IfOk result ModesHaveTimes }
+    ensures printable { IfOk result ModesArePrintable }
+    ensures few_clocks { IfOk result (λ modes. clocks_in modes ≤ most_clocks line.now) }
 {
     let most = most_clocks(line);
     let first = first_place(line);
@@ -82,7 +84,7 @@ fn read_file<I: Inputs>(
     ensures stops { IfErr result (StopsAt place (I.faults inputs.old) (I.faults inputs.new)) }
     ensures counts { I.faults inputs.old ≤ I.faults inputs.new }
     ensures within { IfOk result (λ mode. count + length mode.clocks ≤ most) }
-    ensures timed { IfOk result (λ mode. HaveTimes mode.clocks) }
+    ensures printable { IfOk result (λ mode. ArePrintableClocks [] mode.clocks) }
 {
     let bytes = match read_all(alloc, inputs, name) {
         Ok(bytes) => bytes,

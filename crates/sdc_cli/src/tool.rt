@@ -96,7 +96,7 @@ fn line_output<I: Inputs>(
         (StopsComputing line.now (I.faults inputs.old) (I.faults inputs.new)) }
 {
     let modes = read_modes(alloc, line, inputs)?;
-    output_of(alloc, line, modes.as_slice())
+    output_of(alloc, line, &modes)
 }
 
 /// Writes the output of a command line, the merged file before the report.

@@ -1,9 +1,10 @@
-use Rattle.std.proofs.Common.{◌≡◌, ◌+◌, ◌≤◌, ℕ, List, ◌∷◌, suc, drop, Ok, Err, subst, arith}
+use Rattle.std.proofs.Common.{◌≡◌, ◌+◌, ◌≤◌, ℕ, List, ◌∷◌, suc, drop, Ok, Err, subst, arith, refl}
 use Rattle.std.proofs.lemmas.Grind.{common_steps}
 use Rattle.std.proofs.lemmas.List.{drop_all}
 use Rattle.std.proofs.lemmas.Result.{err_from_is_err_and}
 use Rattle.sdc_model.specs.Answers.{OnTold, ReadsMode, most_clocks, first_place, files_of}
-use Rattle.sdc_cli.proofs.EdgeLines.{drop-item, ModesHaveTimes-push}
+use Rattle.sdc_cli.proofs.EdgeLines.{drop-item}
+use Rattle.sdc_cli.proofs.MergedModes.{printable-push, clocks_in-push}
 use Rattle.sdc_cli.proofs.ModeSteps.{ReadSoFar-more, ReadSoFar-stops, ReadSoFar-all}
 use Rattle.sdc_cli.proofs.mode_files.read_modes.Goals as goal
 
@@ -30,7 +31,8 @@ loop-at-preserved g c =
       counts = omega (arith, c.read_file.ensures.counts);
       each = rw c.in_ok-push.ensures.ok (grind (arith, common_steps));
       within = omega (arith, c.in_ok-mode.ensures.within, c.most_clocks-most.ensures);
-      timed = rw c.in_ok-push.ensures.ok (ModesHaveTimes-push _ _ c.loop-at.invariant.timed c.in_ok-mode.ensures.timed);
+      printable = rw c.in_ok-push.ensures.ok (printable-push _ _ c.loop-at.invariant.printable c.in_ok-mode.ensures.printable);
+      counted = rw (c.in_ok-push.ensures.ok, c.len-count.ensures, clocks_in-push c.loop-at.modes c.in_ok-mode.mode, ← c.loop-at.invariant.counted) refl;
     }
 
 pub returns-clause-told : goal.returns-clause-told

@@ -1,6 +1,7 @@
 use Rattle.std.proofs.Common.{◌≡◌, ◌+◌, ◌≤◌, length}
 use Rattle.sdc_model.specs.Answers.{OnTold, files_of, first_place, most_clocks}
-use Rattle.sdc_model.specs.EdgesText.{ModesHaveTimes}
+use Rattle.sdc_model.specs.PlainViews.{clocks_in}
+use Rattle.sdc_model.specs.PrintedFile.{ModesArePrintable}
 use Rattle.sdc_cli.proofs.ModeSteps.{ReadSoFar}
 use Rattle.sdc_cli.proofs.mode_files.read_modes.Given as goal
 
@@ -11,5 +12,6 @@ invariant-loop-at g l = record {
   counts : g.I.Inputs.faults l.fn.inputs ≤ g.I.Inputs.faults l.inputs;
   each : length l.modes ≡ l.at;
   within : l.count ≤ most_clocks l.line;
-  timed : ModesHaveTimes l.modes;
+  printable : ModesArePrintable l.modes;
+  counted : l.count ≡ clocks_in l.modes;
 }
