@@ -217,8 +217,8 @@ fn only_text(word: &Word) -> Option<&Text>
     }
 }
 
-#[tactic(auto, unfolding(sdc_model::specs::Words::is_text))]
 /// Whether a word is one text, and this one.
+#[tactic(auto, unfolding(sdc_model::specs::Words::is_text))]
 fn is_text(word: &Word, expected: &str) -> bool
     ensures { result ≡ is_text word.now.parts expected.now }
 {

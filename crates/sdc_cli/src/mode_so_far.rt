@@ -70,9 +70,9 @@ impl ModeSoFar {
         Ok(Some(ModeSoFar { clocks, groups }))
     }
 
-    #[tactic(auto, unfolding(sdc_model::specs::ClockFile::grouped))]
     /// This and the groups of one more command, where the names in both are clocks. The one error is want of
     /// memory.
+    #[tactic(auto, unfolding(sdc_model::specs::ClockFile::grouped))]
     pub fn with_groups(
         self,
         alloc: Global,
