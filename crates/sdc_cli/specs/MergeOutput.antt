@@ -1,13 +1,15 @@
--- What a merge over the empty design writes: the printed merged mode, and its report. This project's own.
+-- What a merge over the empty design writes: the printed merged mode, which reads back as it, and its report. This
+-- project's own.
 -- A merged text of more bytes than a file may have is refused with their number.
-use Rattle.std.specs.Prelude.{◌≡◌, ◌<◌, ◌≤◌, ℕ, pos, List, [], length}
+use Rattle.std.specs.Prelude.{◌≡◌, ◌<◌, ◌≤◌, ℕ, pos, List, [], length, Ok}
 use Rattle.sdc_base.specs.declared.whole.TheConstants.{MOST_BYTES}
 use Rattle.sdc_model.specs.declared.command_lines.Output.{Output}
 use Rattle.sdc_model.specs.declared.designs.Design.{Design}
 use Rattle.sdc_model.specs.declared.merges.Merged.{Merged}
 use Rattle.sdc_model.specs.declared.modes.Mode.{Mode}
+use Rattle.sdc_model.specs.ClockFile.{SaysMode}
 use Rattle.sdc_model.specs.MergedMode.{IsMergeOf}
-use Rattle.sdc_model.specs.PrintedFile.{printed_file}
+use Rattle.sdc_model.specs.PrintedFile.{printed_file, without_lines}
 use Rattle.sdc_cli.specs.declared.reports.Report.TheVariants.{Merge}
 use Rattle.sdc_cli.specs.MergeRows.{report_of}
 use Rattle.sdc_cli.specs.ReportTree.{report_bytes}
@@ -20,11 +22,16 @@ empty_design = record { top = []; unit = pos 1000000; pins = []; cells = []; net
 abbrev pub merged_text : Merged → List ℕ
 merged_text merged = printed_file empty_design merged.mode
 
+-- a text, read as a clock file, says a mode, apart from lines
+abbrev pub ReadsBack : Mode → List ℕ → Type 0
+ReadsBack mode text = (said : Mode) × SaysMode text (Ok said) × (without_lines said ≡ without_lines mode)
+
 pub record IsMergeOutput (files : List (List ℕ)) (modes : List Mode) (output : Output) : Type 0 where
   pub merged : Merged
   pub is_merge : IsMergeOf modes merged
   pub short : length (merged_text merged) ≤ MOST_BYTES
   pub text : output.merged ≡ merged_text merged
+  pub reads_back : ReadsBack merged.mode output.merged
   pub report : output.report ≡ report_bytes (Merge (report_of files modes merged.clocks))
 
 pub record IsMergeTooLarge (modes : List Mode) (bytes : ℕ) : Type 0 where

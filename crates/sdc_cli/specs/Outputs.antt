@@ -13,7 +13,7 @@ use Rattle.sdc_model.specs.declared.merges.Merged.{Merged}
 use Rattle.sdc_model.specs.declared.modes.Mode.{Mode}
 use Rattle.sdc_model.specs.Answers.{LineModes, ReadsModes, StopsReading}
 use Rattle.sdc_model.specs.EdgesText.{AreReports}
-use Rattle.sdc_cli.specs.MergeOutput.{IsMergeOutput, IsMergeTooLarge, merged_text}
+use Rattle.sdc_cli.specs.MergeOutput.{IsMergeOutput, IsMergeTooLarge, ReadsBack, merged_text}
 
 -- what a run writes
 abbrev pub IsOutputOf : CommandLine → List Mode → Output → Type 0
@@ -27,7 +27,8 @@ IsTooLargeOf (Merge out files) modes bytes = IsMergeTooLarge modes bytes
 
 -- what making the merged text answers
 abbrev pub GivesText : Merged → Result (List ℕ) Status → Type 0
-GivesText merged (Ok text) = (length (merged_text merged) ≤ MOST_BYTES) × (text ≡ merged_text merged)
+GivesText merged (Ok text) =
+    (length (merged_text merged) ≤ MOST_BYTES) × (text ≡ merged_text merged) × ReadsBack merged.mode text
 GivesText merged (Err (status.TooLarge bytes)) = (length (merged_text merged) ≡ bytes) × (MOST_BYTES < bytes)
 GivesText merged (Err status.NoMemory) = Unit {0}
 GivesText merged (Err _) = ⊥
