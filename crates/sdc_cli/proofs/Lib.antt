@@ -10,6 +10,7 @@ pub mod ItemSteps
 pub mod MergedClocks
 pub mod MergedModes
 pub mod ModeSteps
+pub mod OneOutcome
 pub mod PairLists
 pub mod PlaceSteps
 pub mod ReportTrees

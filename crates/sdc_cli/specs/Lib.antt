@@ -1,5 +1,6 @@
 pub mod Exclusive
 pub mod ExitNumbers
+pub mod Laws
 pub mod MergeOutput
 pub mod MergeRows
 pub mod Outputs
