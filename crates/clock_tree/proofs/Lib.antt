@@ -1,3 +1,4 @@
 pub mod Divisor
 pub mod Gaps
+pub mod OneRelation
 pub mod Remainder

@@ -11,6 +11,7 @@ pub mod MergedClocks
 pub mod MergedModes
 pub mod ModeSteps
 pub mod OneOutcome
+pub mod OneReport
 pub mod PairLists
 pub mod PlaceSteps
 pub mod ReportTrees

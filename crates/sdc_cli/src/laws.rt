@@ -1,12 +1,18 @@
 //! Laws of the tool, each as the contract of a function that does nothing.
 
-ghost use Rattle.std.specs.Prelude.{List};
+ghost use Rattle.std.specs.Prelude.{ℕ, List};
 ghost use Rattle.sdc_base.specs.declared.outside.NamedBytes.{NamedBytes};
 ghost use Rattle.sdc_model.specs.declared.command_lines.CommandLine.{CommandLine};
-ghost use Rattle.sdc_cli.specs.Laws.{HasOneOutcome};
+ghost use Rattle.sdc_model.specs.declared.modes.Mode.{Mode};
+ghost use Rattle.sdc_cli.specs.Laws.{HasOneOutcome, HaveOneReport};
 
 /// The files of a command line say their modes or have one first fault, and never both. So what `run` answers
 /// with a fault, or with an output, it answers exactly where that stands.
 pub fn files_have_one_outcome()
     ensures { (line : CommandLine) (files : List NamedBytes) → HasOneOutcome line files }
+{}
+
+/// Modes have one report of `edges`.
+pub fn modes_have_one_report()
+    ensures { (files : List (List ℕ)) (modes : List Mode) → HaveOneReport files modes }
 {}

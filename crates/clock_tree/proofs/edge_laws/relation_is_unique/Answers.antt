@@ -1,21 +1,5 @@
-use Rattle.std.proofs.Common.{◌≡◌, ℤ, ◌∙◌, ap, arith}
-use Rattle.std.proofs.lemmas.Int.{ints}
-use Rattle.sdc_model.specs.Relation.{IsSetup, IsHold}
-use Rattle.sdc_model.specs.declared.edge_times.Relation.{Relation}
+use Rattle.clock_tree.proofs.OneRelation.{relation_once}
 use Rattle.clock_tree.proofs.edge_laws.relation_is_unique.Goals as goal
 
-same_setup : (a p b q d e : ℤ) → IsSetup a p b q d → IsSetup a p b q e → d ≡ e
-same_setup a p b q d e g h = let le = g.2 e h.0 h.1 in let ge = h.2 d g.0 g.1 in omega (arith, ints)
-
-same_hold : (a p b q d e : ℤ) → IsHold a p b q d → IsHold a p b q e → d ≡ e
-same_hold a p b q d e g h = let ge = g.2 e h.0 h.1 in let le = h.2 d g.0 g.1 in omega (arith, ints)
-
-from_members : (r s : Relation) → r.setup ≡ s.setup → r.hold ≡ s.hold → r ≡ s
-from_members r s setup hold =
-    let with_setup : ℤ → Relation = λ d. record { setup = d; hold = r.hold } in
-    let with_hold : ℤ → Relation = λ d. record { setup = s.setup; hold = d } in
-    ap with_setup setup ∙ ap with_hold hold
-
 pub returns : goal.returns
-returns c a p b q r s g h =
-    from_members r s (same_setup a p b q r.setup s.setup g.setup h.setup) (same_hold a p b q r.hold s.hold g.hold h.hold)
+returns c = relation_once
