@@ -29,7 +29,6 @@ pub use map_laws::{
     merged_names_are_apart,
 };
 pub use plain_views::are_plain;
-
 use sdc_base::{List, NoMemory};
 use sdc_model::{ClockMap, View};
 use std::alloc::Global;

@@ -27,9 +27,9 @@ rows_of-requires c =
 pub returns : goal.returns
 returns c =
     let map = is_map c.args.modes.now c.in_ok-standings.standings c.in_ok-standings.identities c.in_ok-numbers.numbers
-      (record { clocks = c.in_ok-merged.merged.clocks; waves = c.in_ok-merged.merged.waves; maps = c.in_ok-maps.maps }) c.requires.primary c.requires.waves
-      c.in_ok-standings.ensures.standings c.in_ok-standings.ensures.identities c.in_ok-numbers.ensures c.in_ok-merged.ensures
-      c.in_ok-maps.ensures.all c.in_ok-maps.ensures.shape in
+    (record { clocks = c.in_ok-merged.merged.clocks; waves = c.in_ok-merged.merged.waves; maps = c.in_ok-maps.maps }) c.requires.primary c.requires.waves
+    c.in_ok-standings.ensures.standings c.in_ok-standings.ensures.identities c.in_ok-numbers.ensures c.in_ok-merged.ensures
+    c.in_ok-maps.ensures.all c.in_ok-maps.ensures.shape in
     record {
       map = map;
       beside = sym (zip_length (λ view row. length row ≡ length view.mode.clocks) c.args.modes.now c.in_ok-maps.maps c.in_ok-maps.ensures.shape);
