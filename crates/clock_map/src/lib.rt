@@ -25,7 +25,7 @@ ghost use Rattle.sdc_model.specs.PlainViews.{ArePlain};
 
 pub use exclusive::exclusive_pairs;
 pub use map_laws::{
-    clocks_of_a_mode_are_apart, equal_modes_share_clocks, merged_clocks_are_clocks_of_modes,
+    clocks_of_a_mode_are_apart, equal_modes_share_clocks, merged_clocks_come_from_modes,
     merged_names_are_apart,
 };
 pub use plain_views::are_plain;

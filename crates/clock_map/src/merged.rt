@@ -26,7 +26,7 @@ pub(crate) fn merged_clocks(
 ) -> Result<Merged, NoMemory>
     requires beside { length numbers.now ≡ length standings.now }
     requires rises { Rises numbers.now }
-    ensures { IfOk result (λ merged. AreMerged standings.now numbers.now merged.clocks merged.waves) }
+    ensures { IfOk result (λ m. AreMerged standings.now numbers.now m.clocks m.waves) }
 {
     let own = own_names(alloc, standings)?;
     let standings = standings.as_slice();

@@ -1,6 +1,5 @@
-use Rattle.std.proofs.Common.{◌≡◌, ◌<◌, ◌∙◌, ◌-◌, ◌+◌, ◌≤◌, ℕ, IsTrue, true, false, length, get_or, ap, sym, subst, arith, rules}
+use Rattle.std.proofs.Common.{◌≡◌, ◌<◌, ◌∙◌, ◌-◌, ◌+◌, ℕ, length, get_or, sym, subst, arith}
 use Rattle.std.proofs.lemmas.Bool.{false≢true}
-use Rattle.sdc_model.specs.PlainViews.{ArePlain}
 use Rattle.clock_map.proofs.ClockLists.{primary_mode, waves_of_mode}
 use Rattle.clock_map.proofs.PlainLists.{PlainSoFar, plain_step, too_many}
 use Rattle.clock_map.proofs.plain_views.are_plain.Goals as goal

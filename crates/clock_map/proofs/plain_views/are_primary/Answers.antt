@@ -1,4 +1,4 @@
-use Rattle.std.proofs.Common.{◌≡◌, ◌<◌, ◌∙◌, IsTrue, true, false, length, get_or, sym, arith, rules}
+use Rattle.std.proofs.Common.{◌∙◌, sym}
 use Rattle.std.proofs.lemmas.Bool.{false≢true}
 use Rattle.clock_map.proofs.PlainLists.{primary_here, primary_step}
 use Rattle.clock_map.proofs.plain_views.are_primary.Goals as goal
