@@ -108,21 +108,12 @@ map_get f (x ∷ xs) (suc p) y e = map_get f xs p y e
 
 pub ranks_tell_apart : (numbers : List ℕ) (view : View) (p q : ℕ) (x y : Identity)
     → slice_get (identities_among (mode_standings numbers view)) p ≡ Some x → slice_get (identities_among (mode_standings numbers view)) q ≡ Some y → x ≡ y → p ≡ q
-ranks_tell_apart numbers view p q x y e f same = by_order (ahead_cmp s t) refl where
-  all : List Standing
-  all = mode_standings numbers view
-
+ranks_tell_apart numbers view p q x y e f same = by_order (ahead_cmp one.0 other.0) refl where
   one : (z : Standing) × (slice_get (mode_standings numbers view) p ≡ Some z) × (identity_among (mode_standings numbers view) z ≡ x)
   one = map_get (identity_among (mode_standings numbers view)) (mode_standings numbers view) p x e
 
   other : (z : Standing) × (slice_get (mode_standings numbers view) q ≡ Some z) × (identity_among (mode_standings numbers view) z ≡ y)
   other = map_get (identity_among (mode_standings numbers view)) (mode_standings numbers view) q y f
-
-  s : Standing
-  s = one.0
-
-  t : Standing
-  t = other.0
 
   equal : identity_among (mode_standings numbers view) one.0 ≡ identity_among (mode_standings numbers view) other.0
   equal = one.2 ∙ same ∙ sym other.2

@@ -16,3 +16,4 @@ pub mod ExclusiveLists
 pub mod PairOrder
 pub mod LawLists
 pub mod SharedClocks
+pub mod PlainLists

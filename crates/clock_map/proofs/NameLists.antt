@@ -16,6 +16,7 @@ use Rattle.std.proofs.lemmas.List.Elements.{Contains-append_left, Contains-appen
 use Rattle.std.proofs.lemmas.Map.Lookups.{exact_bytes}
 use Rattle.std.proofs.lemmas.Map.Made.{length-le_from_is_member}
 use Rattle.std.proofs.lemmas.Map.Views.{tells_apart, list_any-from_Contains, btree_set_contains_iff}
+use Rattle.clock_map.specs.MergedClocks.{IsTaken}
 use Rattle.sdc_model.specs.ClockIdentity.{numbered_name, IsFreeName}
 
 -- two texts are the same
@@ -54,10 +55,6 @@ distinct : (name : List ℕ) (k : ℕ) → k < 2 ^ 64 → IsDistinct same (names
 unfolding names_to IsDistinct
 distinct name zero small = tt
 distinct name (suc k) small = (none_same name (suc k) k small (omega arith), distinct name k (omega arith))
-
--- the name is that of a mode's clock or of an earlier merged clock
-abbrev pub IsTaken : List (List ℕ) → List (List ℕ) → List ℕ → Type 0
-IsTaken own earlier name = Contains own name ⊎ Contains earlier name
 
 -- the names with `_k` below a number are taken
 abbrev pub TakenBelow : List (List ℕ) → List (List ℕ) → List ℕ → ℕ → Type 0

@@ -153,7 +153,7 @@ same_lists (x ∷ xs) (y ∷ ys) long each =
     let rest : xs ≡ ys = same_lists xs ys (omega arith) (λ i within. each (suc i) (omega arith)) in
     λ i. first' i ∷ rest i
 
-zip_length : {X : Type 0} (R : X → X → Type 0) (xs ys : List X) → AllZip R xs ys → length xs ≡ length ys
+pub zip_length : {X Y : Type 0} (R : X → Y → Type 0) (xs : List X) (ys : List Y) → AllZip R xs ys → length xs ≡ length ys
 zip_length R [] [] all = refl
 zip_length R [] (y ∷ ys) all = absurd all
 zip_length R (x ∷ xs) [] all = absurd all

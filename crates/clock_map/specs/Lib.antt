@@ -1,3 +1,4 @@
 pub mod Numbering
 pub mod MergedClocks
 pub mod Timings
+pub mod MapFacts

@@ -12,6 +12,10 @@ use Rattle.clock_map.specs.Numbering.{RisesTo}
 abbrev pub HaveSameNames : List (List ℕ) → List (List ℕ) → Type 0
 HaveSameNames names others = (name : List ℕ) → Contains names name ↔ Contains others name
 
+-- the name is that of a mode's clock or of an earlier merged clock
+abbrev pub IsTaken : List (List ℕ) → List (List ℕ) → List ℕ → Type 0
+IsTaken own earlier name = Contains own name ⊎ Contains earlier name
+
 -- one name more
 abbrev pub HasOneMore : List (List ℕ) → List ℕ → List (List ℕ) → Type 0
 HasOneMore before added after = (name : List ℕ) → Contains after name ↔ (Contains before name ⊎ (added ≡ name))

@@ -1,8 +1,10 @@
 -- How things are numbered in the order in which they first appear.
--- Each number is one that stands before it, or the next new one.
+-- Each number is one that stands before it, or the next new one. Each mode has a row of them.
 use Rattle.std.specs.Prelude.{◌≡◌, ◌+◌, ◌<◌, ◌⊎◌, ◌↔◌, ℕ, suc, List, [], ◌∷◌, length, Some, None, slice_get}
 use Rattle.std.specs.declared.cmp.Ordering.{Ordering}
 use Rattle.std.specs.BTreeMap.{BTreeMap, get, Updates, IsUnchanged, btree_map_len}
+use Rattle.std.specs.List.{AllZip}
+use Rattle.sdc_model.specs.declared.views.View.{View}
 use Rattle.sdc_model.specs.declared.identities.Identity.{Identity}
 use Rattle.sdc_model.specs.contracts.identities.IdentityOrd.TheImpl as identity_order
 
@@ -29,3 +31,7 @@ Numbers before identity number after =
     ((get identity_cmp before identity ≡ Some number) × IsUnchanged before after)
     ⊎ ((get identity_cmp before identity ≡ None) × (number ≡ btree_map_len before)
     × Updates identity_cmp before after identity (Some number) × (btree_map_len after ≡ btree_map_len before + 1))
+
+-- each mode has a row of as many numbers as it has clocks
+abbrev pub HaveRows : List View → List (List ℕ) → Type 0
+HaveRows = AllZip (λ view row. length row ≡ length view.mode.clocks)

@@ -24,8 +24,8 @@ pub(crate) fn all_clocks(
     let mut identities = List::new(alloc);
     for view in modes.as_slice() {
         let of_mode = mode_standings(alloc, view)?;
-        let made = mode_identities(alloc, &of_mode)?;
-        append(&mut identities, made)?;
+        let their_identities = mode_identities(alloc, &of_mode)?;
+        append(&mut identities, their_identities)?;
         append(&mut standings, of_mode)?;
     }
     Ok((standings, identities))

@@ -11,21 +11,24 @@ mod map_laws;
 mod merged;
 mod names;
 mod numbering;
+mod plain_views;
 mod ranks;
 mod rows;
 mod standings;
 #[cfg(test)]
 mod tests;
 
-ghost use Rattle.std.specs.Prelude.{◌≤◌, ◌^◌, length, IfOk};
+ghost use Rattle.std.specs.Prelude.{◌≡◌, ◌≤◌, length, IfOk};
 ghost use Rattle.sdc_model.specs.ClockIdentity.{IsClockMap};
-ghost use Rattle.sdc_model.specs.PlainViews.{ModesArePrimary, HaveWaves, clock_count};
+ghost use Rattle.sdc_model.specs.Exclusive.{AreApart};
+ghost use Rattle.sdc_model.specs.PlainViews.{ArePlain, clock_count};
 
 pub use exclusive::exclusive_pairs;
 pub use map_laws::{
-    clocks_of_a_mode_are_apart, equal_modes_share_clocks, merged_clocks_are_clocks_of_modes,
+    clocks_of_a_mode_are_apart, equal_modes_share_clocks, merged_clocks_come_from_modes,
     merged_names_are_apart,
 };
+pub use plain_views::are_plain;
 use sdc_base::{List, NoMemory};
 use sdc_model::{ClockMap, View};
 use std::alloc::Global;
@@ -34,12 +37,12 @@ use std::alloc::Global;
 ///
 /// The rule is this project's own: clocks of different modes are one exactly where their definitions are equal, names
 /// and lines aside, and they have the same rank by name among the equal definitions of their mode. The modes' own
-/// `clock_map` is not read. All clocks are primary ones. The one error is want of memory.
+/// `clock_map` is not read. All clocks are primary ones, as `are_plain` tests. The one error is want of memory.
 pub fn map_clocks(alloc: Global, modes: &List<View>) -> Result<ClockMap, NoMemory>
-    requires primary { ModesArePrimary modes.now }
-    requires waves { HaveWaves modes.now }
-    requires few { clock_count modes.now ≤ 2 ^ 32 }
+    requires { ArePlain modes.now }
     ensures map { IfOk result (IsClockMap modes.now) }
+    ensures beside { IfOk result (λ map. length map.maps ≡ length modes.now) }
+    ensures apart { IfOk result (λ map. AreApart map.maps) }
     ensures few { IfOk result (λ map. length map.clocks ≤ clock_count modes.now) }
 {
     let (standings, identities) = all_clocks::all_clocks(alloc, modes)?;

@@ -26,9 +26,8 @@ pub(crate) fn merged_clocks(
 ) -> Result<Merged, NoMemory>
     requires beside { length numbers.now ≡ length standings.now }
     requires rises { Rises numbers.now }
-    ensures merged { IfOk result
-        (λ merged. AreMerged standings.now numbers.now merged.clocks merged.waves) }
-    ensures few { IfOk result (λ merged. length merged.clocks ≤ length numbers.now) }
+    ensures merged { IfOk result (λ m. AreMerged standings.now numbers.now m.clocks m.waves) }
+    ensures few { IfOk result (λ m. length m.clocks ≤ length numbers.now) }
 {
     let own = own_names(alloc, standings)?;
     let standings = standings.as_slice();

@@ -1,8 +1,8 @@
 //! The names of merged clocks.
 
-ghost use Rattle.std.specs.Prelude.{◌≡◌, ◌⊎◌, ◌↔◌, IfOk, IsTrue};
-ghost use Rattle.std.specs.List.{Contains};
+ghost use Rattle.std.specs.Prelude.{◌≡◌, ◌↔◌, IfOk, IsTrue};
 ghost use Rattle.sdc_model.specs.ClockIdentity as identity;
+ghost use Rattle.clock_map.specs.MergedClocks.{IsTaken};
 
 use itoa::Buffer;
 use sdc_base::{Duplicate, NoMemory, Text};
@@ -17,7 +17,7 @@ pub(crate) fn merged_name(
     earlier: &BTreeSet<Text>,
     first: &Text,
 ) -> Result<Text, NoMemory>
-    ensures { IfOk result (λ name. identity.IsMergedName own.now.keys earlier.now.keys first.now name) }
+    ensures { IfOk result (identity.IsMergedName own.now.keys earlier.now.keys first.now) }
 {
     if earlier.contains(first) {
         free_name(alloc, own, earlier, first)
@@ -33,7 +33,7 @@ fn free_name(
     earlier: &BTreeSet<Text>,
     first: &Text,
 ) -> Result<Text, NoMemory>
-    ensures { IfOk result (λ name. identity.IsFreeName own.now.keys earlier.now.keys first.now name) }
+    ensures { IfOk result (identity.IsFreeName own.now.keys earlier.now.keys first.now) }
 {
     let most = own.len() as u64 + earlier.len() as u64;
     let mut k = 1_u64;
@@ -49,7 +49,7 @@ fn free_name(
 
 /// Whether a clock of a mode or an earlier merged clock has the name.
 fn is_taken(own: &BTreeSet<Text>, earlier: &BTreeSet<Text>, name: &Text) -> bool
-    ensures { IsTrue result ↔ (Contains own.now.keys name.now ⊎ Contains earlier.now.keys name.now) }
+    ensures { IsTrue result ↔ IsTaken own.now.keys earlier.now.keys name.now }
 {
     own.contains(name) || earlier.contains(name)
 }

@@ -1,8 +1,9 @@
 //! The numbers of all clocks, mode by mode.
 
 ghost use Rattle.std.specs.Prelude.{◌≡◌, length, IfOk};
-ghost use Rattle.std.specs.List.{concat, AllZip};
+ghost use Rattle.std.specs.List.{concat};
 ghost use Rattle.sdc_model.specs.PlainViews.{clock_count};
+ghost use Rattle.clock_map.specs.Numbering.{HaveRows};
 
 use sdc_base::{List, NoMemory};
 use sdc_model::View;
@@ -16,7 +17,7 @@ pub(crate) fn rows_of(
 ) -> Result<List<List<u32>>, NoMemory>
     requires { length numbers.now ≡ clock_count modes.now }
     ensures all { IfOk result (λ rows. concat rows ≡ numbers.now) }
-    ensures shape { IfOk result (λ rows. AllZip (λ view row. length row ≡ length view.mode.clocks) modes.now rows) }
+    ensures shape { IfOk result (HaveRows modes.now) }
 {
     let numbers = numbers.as_slice();
     let mut rows = List::new(alloc);

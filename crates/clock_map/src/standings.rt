@@ -30,7 +30,7 @@ pub(crate) fn mode_standings(alloc: Global, view: &View) -> Result<List<Standing
 
 /// What of a clock of this waveform decides which merged clock it is.
 fn definition_of(alloc: Global, clock: &Clock, wave: Wave) -> Result<Definition, NoMemory>
-    ensures { IfOk result (λ definition. definition ≡ identity.definition_of clock.now.form clock.now wave) }
+    ensures { IfOk result (λ d. d ≡ identity.definition_of clock.now.form clock.now wave) }
 {
     let sources = clock.sources.copy(alloc)?;
     Ok(Definition {

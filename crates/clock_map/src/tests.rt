@@ -2,6 +2,8 @@
 use super::*;
 use sdc_base::Text;
 use sdc_model::{Arrivals, Clock, Early, Form, Latency, Mode, Pair, Wave};
+use std::process::Abort;
+use std::test::Fail;
 
 const NONE: Early = Early { rise: 0, fall: 0 };
 
@@ -92,7 +94,7 @@ fn views(alloc: Global, modes: &[&[(&str, i64)]]) -> Result<List<View>, NoMemory
 }
 
 #[test]
-fn clocks_of_modes(rt: HostRuntime) {
+fn clocks_of_modes(rt: HostRuntime) -> Result<(), Fail> {
     let alloc = rt.alloc();
     let cases: [(&[&[(&str, i64)]], &str); 9] = [
         (&[], ""),
@@ -134,63 +136,78 @@ fn clocks_of_modes(rt: HostRuntime) {
         ),
     ];
     for (modes, expected) in cases {
-        let views = views(alloc, modes).unwrap();
-        let map = map_clocks(alloc, &views).unwrap();
-        assert_eq!(rt; shown(alloc, &map).unwrap().as_str(), expected);
+        let views = views(alloc, modes)?;
+        assert!(rt; are_plain(&views));
+        let map = map_clocks(alloc, &views)?;
+        let text = shown(alloc, &map)?;
+        assert_eq!(rt; text.as_str(), expected);
     }
+    Ok(())
 }
 
 #[test]
-fn sixteen_different_clocks_of_one_name(rt: HostRuntime) {
+fn sixteen_different_clocks_of_one_name(rt: HostRuntime) -> Result<(), Fail> {
     let alloc = rt.alloc();
     let mut modes = List::new(alloc);
     for period in 2..18 {
-        modes
-            .push(view(alloc, &[("clk", period)], &[]).unwrap())
-            .unwrap();
+        modes.push(view(alloc, &[("clk", period)], &[])?)?;
     }
-    let map = map_clocks(alloc, &modes).unwrap();
+    assert!(rt; are_plain(&modes));
+    let map = map_clocks(alloc, &modes)?;
+    let text = shown(alloc, &map)?;
     assert_eq!(rt;
-        shown(alloc, &map).unwrap().as_str(),
+        text.as_str(),
         "clk 2, clk_1 3, clk_2 4, clk_3 5, clk_4 6, clk_5 7, clk_6 8, clk_7 9, clk_8 10, clk_9 11, clk_10 12, clk_11 13, clk_12 14, clk_13 15, clk_14 16, clk_15 17, | 0| 1| 2| 3| 4| 5| 6| 7| 8| 9| 10| 11| 12| 13| 14| 15"
     );
+    Ok(())
+}
+
+/// The exclusive pairs of the merged clocks of modes, each with its clocks and its exclusive pairs.
+fn exclusive(
+    rt: &impl Abort,
+    alloc: Global,
+    modes: &[(&[(&str, i64)], &[(u32, u32)])],
+) -> Result<String, Fail> {
+    let mut views = List::new(alloc);
+    for (named, pairs) in modes {
+        views.push(view(alloc, named, pairs)?)?;
+    }
+    assert!(rt; are_plain(&views));
+    let map = map_clocks(alloc, &views)?;
+    let count = u32::try_from(map.clocks.len())?;
+    let pairs = exclusive_pairs(alloc, &views, &map.maps, count)?;
+    let mut text = String::new(alloc);
+    for pair in pairs.iter() {
+        let word = format!(in alloc; "({} {})", pair.first, pair.second)?;
+        text.push_str(word.as_str())?;
+    }
+    Ok(text)
 }
 
 #[test]
-fn exclusive_merged_clocks(rt: HostRuntime) {
+fn exclusive_merged_clocks(rt: HostRuntime) -> Result<(), Fail> {
     let alloc = rt.alloc();
     let a_and_b: &[(&str, i64)] = &[("A", 10), ("B", 15)];
     let a_and_c: &[(&str, i64)] = &[("A", 10), ("C", 15)];
     let a: &[(&str, i64)] = &[("A", 10)];
-    let reversed: &[(&str, i64)] = &[("B", 15), ("A", 10)];
-    let cases: [(&[(&[(&str, i64)], &[(u32, u32)])], &str); 6] = [
-        // the second mode has both and lets them be timed
-        (&[(a_and_b, &[(0, 1)]), (a_and_c, &[])], ""),
-        // the one mode that has both excludes them
-        (&[(a_and_b, &[(0, 1)]), (a, &[])], "(0 1)"),
-        // no mode has both
-        (
-            &[(a, &[]), (&[("A", 20)], &[]), (&[("A", 30)], &[])],
-            "(0 1)(0 2)(1 2)",
-        ),
-        (&[(a_and_b, &[])], ""),
-        // the places of the second mode are the other way round
-        (&[(a_and_b, &[(0, 1)]), (reversed, &[(0, 1)])], "(0 1)"),
-        (&[(a_and_b, &[(0, 1)]), (reversed, &[])], ""),
-    ];
-    for (modes, expected) in cases {
-        let mut views = List::new(alloc);
-        for (named, exclusive) in modes {
-            views.push(view(alloc, named, exclusive).unwrap()).unwrap();
-        }
-        let map = map_clocks(alloc, &views).unwrap();
-        let count = map.clocks.len() as u32;
-        let pairs = exclusive_pairs(alloc, &views, &map.maps, count).unwrap();
-        let mut text = String::new(alloc);
-        for pair in pairs.iter() {
-            let word = format!(in alloc; "({} {})", pair.first, pair.second).unwrap();
-            text.push_str(word.as_str()).unwrap();
-        }
-        assert_eq!(rt; text.as_str(), expected);
-    }
+    let b_and_a: &[(&str, i64)] = &[("B", 15), ("A", 10)];
+    // the second mode has both and lets them be timed
+    let text = exclusive(&rt, alloc, &[(a_and_b, &[(0, 1)]), (a_and_c, &[])])?;
+    assert_eq!(rt; text.as_str(), "");
+    // the one mode that has both excludes them
+    let text = exclusive(&rt, alloc, &[(a_and_b, &[(0, 1)]), (a, &[])])?;
+    assert_eq!(rt; text.as_str(), "(0 1)");
+    // no mode has both
+    let text = exclusive(
+        &rt,
+        alloc,
+        &[(a, &[]), (&[("A", 20)], &[]), (&[("A", 30)], &[])],
+    )?;
+    assert_eq!(rt; text.as_str(), "(0 1)(0 2)(1 2)");
+    // the clocks of the second mode stand the other way round
+    let text = exclusive(&rt, alloc, &[(a_and_b, &[(0, 1)]), (b_and_a, &[(0, 1)])])?;
+    assert_eq!(rt; text.as_str(), "(0 1)");
+    let text = exclusive(&rt, alloc, &[(a_and_b, &[(0, 1)]), (b_and_a, &[])])?;
+    assert_eq!(rt; text.as_str(), "");
+    Ok(())
 }

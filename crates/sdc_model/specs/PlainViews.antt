@@ -1,6 +1,6 @@
 -- What a list of modes must have so that its clocks can be merged by their own waveforms alone. This project's own.
 -- Every clock is primary, each has its wave, and the clocks can be counted. Two modes may have the same clocks.
-use Rattle.std.specs.Prelude.{◌≡◌, ◌+◌, ℕ, List, [], ◌∷◌, ◌++◌, length, map}
+use Rattle.std.specs.Prelude.{◌≡◌, ◌+◌, ◌^◌, ◌≤◌, ℕ, List, [], ◌∷◌, ◌++◌, length, map}
 use Rattle.std.specs.List.{AllZip}
 use Rattle.sdc_model.specs.declared.clocks.Clock.{Clock}
 use Rattle.sdc_model.specs.declared.clocks.Wave.{Wave}
@@ -31,6 +31,12 @@ HaveWaves (view ∷ views) = (length view.waves ≡ length view.mode.clocks) × 
 abbrev pub clock_count : List View → ℕ
 clock_count [] = 0
 clock_count (view ∷ views) = length view.mode.clocks + clock_count views
+
+-- the clocks of these modes can be merged
+pub record ArePlain (views : List View) : Type 0 where
+  pub primary : ModesArePrimary views
+  pub waves : HaveWaves views
+  pub few : clock_count views ≤ 2 ^ 32
 
 -- the waveform that a clock has of its own
 abbrev pub own_wave : Form → List Wave

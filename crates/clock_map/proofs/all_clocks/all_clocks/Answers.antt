@@ -19,6 +19,6 @@ pub loop-view-preserved : goal.loop-view-preserved
 loop-view-preserved c =
     let views = c.as_slice-view-items.ensures in
     let standings = c.in_ok-append-2.ensures ∙ ap (λ more. c.loop-view.standings ++ more) c.in_ok-of_mode.ensures in
-    let identities = c.in_ok-append.ensures ∙ ap (λ more. c.loop-view.identities ++ more) (c.in_ok-made.ensures ∙ ap identities_among c.in_ok-of_mode.ensures) in
+    let identities = c.in_ok-append.ensures ∙ ap (λ more. c.loop-view.identities ++ more) (c.in_ok-their_identities.ensures ∙ ap identities_among c.in_ok-of_mode.ensures) in
     clocks_step c.args.modes.now c.loop-view.view-index c.view-item.result c.loop-view.standings _ c.loop-view.identities _
     (rw views at c.loop-view-test.true) (rw views at c.view-item.is) standings identities c.loop-view.invariant
