@@ -1,3 +1,4 @@
 pub mod Added
 pub mod FileLaw
+pub mod Pieces
 pub mod Runs

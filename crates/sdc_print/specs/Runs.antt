@@ -2,8 +2,8 @@
 use Rattle.std.specs.Prelude.{ℕ, suc, ◌==◌, List, [], ◌∷◌, map, if◌then◌else◌}
 use Rattle.sdc_model.specs.declared.clocks.Clock.{Clock}
 use Rattle.sdc_model.specs.declared.clocks.Pair.{Pair}
-use Rattle.sdc_model.specs.PrintedLine.{lines_text}
-use Rattle.sdc_model.specs.PrintedFile.{lines_of_group, names_at}
+use Rattle.sdc_model.specs.PrintedLine.{lines_text, spaced}
+use Rattle.sdc_model.specs.PrintedFile.{group_lines, lines_of_group, names_at}
 
 -- how many pairs from the front on have this first place
 unfoldable pub run_length : ℕ → List Pair → ℕ
@@ -17,3 +17,11 @@ seconds pairs = map (λ pair. pair.second) pairs
 -- the bytes of the line of a clock and the second ones of such pairs
 abbrev pub group_text : List ℕ → List Clock → List Pair → List ℕ
 group_text name clocks pairs = lines_text (lines_of_group name (names_at clocks (seconds pairs)))
+
+-- the bytes of the lines of all groups
+abbrev pub groups_text : List Clock → List Pair → List ℕ
+groups_text clocks pairs = lines_text (group_lines clocks pairs 0 clocks)
+
+-- the names of the second clocks of pairs, in a list
+abbrev pub second_names : List Clock → List Pair → List ℕ
+second_names clocks pairs = spaced (names_at clocks (seconds pairs))

@@ -2,9 +2,10 @@
 
 ghost use Rattle.std.specs.Prelude.{◌≡◌, OnOk};
 ghost use Rattle.sdc_base.specs.Time.{IsUnit};
-ghost use Rattle.sdc_model.specs.PrintedLine.{line_text, lines_text};
-ghost use Rattle.sdc_model.specs.PrintedFile.{clock_line, lines_of_form, clock_lines};
+ghost use Rattle.sdc_model.specs.PrintedLine.{lines_text};
+ghost use Rattle.sdc_model.specs.PrintedFile.{clock_lines};
 ghost use Rattle.sdc_print.specs.Added.{added};
+ghost use Rattle.sdc_print.specs.Pieces.{clock_text, form_text};
 
 use crate::sinks::Sink;
 use crate::word_printing::{push_name, push_time};
@@ -37,7 +38,7 @@ fn push_form(
     form: &Form,
 ) -> Result<(), NoMemory>
     requires { IsUnit unit }
-    ensures { OnOk result (out.new ≡ added out.old (lines_text (lines_of_form unit name.now form.now))) }
+    ensures { OnOk result (out.new ≡ added out.old (form_text unit name.now form.now)) }
 {
     match form {
         Form::Primary { wave } => push_clock(out, alloc, unit, name, wave)?,
@@ -55,7 +56,7 @@ fn push_clock(
     wave: &Wave,
 ) -> Result<(), NoMemory>
     requires { IsUnit unit }
-    ensures { OnOk result (out.new ≡ added out.old (line_text (clock_line unit name.now wave.now))) }
+    ensures { OnOk result (out.new ≡ added out.old (clock_text unit name.now wave.now)) }
 {
     out.push(b"create_clock -name ")?;
     push_name(out, name)?;

@@ -1,10 +1,9 @@
 //! The lines of exclusive clocks.
 
 ghost use Rattle.std.specs.Prelude.{◌≡◌, ◌≤◌, OnOk, length, slice_get};
-ghost use Rattle.sdc_model.specs.PrintedLine.{lines_text, spaced};
-ghost use Rattle.sdc_model.specs.PrintedFile.{group_lines, name_of, names_at, ArePairs};
+ghost use Rattle.sdc_model.specs.PrintedFile.{name_of, ArePairs};
 ghost use Rattle.sdc_print.specs.Added.{added};
-ghost use Rattle.sdc_print.specs.Runs.{run_length, seconds, group_text};
+ghost use Rattle.sdc_print.specs.Runs.{run_length, group_text, groups_text, second_names};
 
 use crate::sinks::Sink;
 use sdc_base::{List, NoMemory};
@@ -13,7 +12,7 @@ use sdc_model::{Clock, Pair};
 /// Adds the line of each clock with later exclusive clocks: the clock, and all of these. The pairs are in order.
 pub fn push_groups(out: &mut Sink, clocks: &List<Clock>, pairs: &List<Pair>) -> Result<(), NoMemory>
     requires { ArePairs (length clocks.now) pairs.now }
-    ensures { OnOk result (out.new ≡ added out.old (lines_text (group_lines clocks.now pairs.now 0 clocks.now))) }
+    ensures { OnOk result (out.new ≡ added out.old (groups_text clocks.now pairs.now)) }
 {
     let mut rest = pairs.as_slice();
     for (place, clock) in clocks.as_slice().iter().enumerate() {
@@ -59,7 +58,7 @@ fn push_group(
 
 /// Adds the names of the second clocks of pairs, with a blank between each two.
 fn push_second_names(out: &mut Sink, clocks: &List<Clock>, pairs: &[Pair]) -> Result<(), NoMemory>
-    ensures { OnOk result (out.new ≡ added out.old (spaced (names_at clocks.now (seconds pairs.now)))) }
+    ensures { OnOk result (out.new ≡ added out.old (second_names clocks.now pairs.now)) }
 {
     for (place, pair) in pairs.iter().enumerate() {
         if place > 0 {
