@@ -11,16 +11,6 @@ use Rattle.sdc_model.specs.PrintedFile.{ArePrintableClocks, ModesArePrintable}
 use Rattle.sdc_cli.specs.MergeRows.{IsNumbered}
 use Rattle.sdc_cli.proofs.SaidClocks.{printable_has_times}
 
-all_zip_long : {A B : Type 0} (R : A → B → Type 0) (xs : List A) (ys : List B) → AllZip R xs ys → length ys ≡ length xs
-all_zip_long R [] [] all = refl
-all_zip_long R [] (y ∷ ys) all = absurd all
-all_zip_long R (x ∷ xs) [] all = absurd all
-all_zip_long R (x ∷ xs) (y ∷ ys) all = ap suc (all_zip_long R xs ys all.1)
-
--- the maps of a clock map stand beside the modes that they are of
-pub maps_long : (views : List View) (answer : ClockMap) → IsClockMap views answer → length answer.maps ≡ length views
-maps_long views answer is = all_zip_long _ views answer.maps is.shape
-
 pub printable-push : (modes : List Mode) (mode : Mode) → ModesArePrintable modes → ArePrintableClocks [] mode.clocks → ModesArePrintable (modes ++ mode ∷ [])
 printable-push [] mode have clocks = (clocks, tt)
 printable-push (m ∷ modes) mode have clocks = (have.0, printable-push modes mode have.1 clocks)
