@@ -12,8 +12,16 @@ told_written : (name : List ℕ) (output : Output) (answer : Result Unit Refusal
 told_written name output (Ok u) before made merged after is_made is_merged is_after =
     is_after ∙ ap (appended Report output.report) (is_merged ∙ ap (appended Merged output.merged) is_made)
 told_written name output (Err e) before made merged after is_made is_merged is_after =
-    inr (output.merged, [], is_after.0, is_after.1, sym (append-nil output.merged), is_after.2, inl refl,
-      is_after.3 ∙ ap (appended Report is_after.0) (is_merged ∙ ap (appended Merged output.merged) is_made))
+    inr (
+      output.merged,
+      [],
+      is_after.0,
+      is_after.1,
+      sym (append-nil output.merged),
+      is_after.2,
+      inl refl,
+      is_after.3 ∙ ap (appended Report is_after.0) (is_merged ∙ ap (appended Merged output.merged) is_made),
+    )
 
 pub both_written : (name : List ℕ) (output : Output) (answer : Result Unit Refusal) (before made merged after : Option Written)
     → Creates name (Ok tt) before made → WritesAll Merged output.merged (Ok tt) made merged → WritesAll Report output.report answer merged after

@@ -32,9 +32,9 @@ budget_is text (Ok n) parses =
 budget_is text (Err e) parses =
     let digits = without_leading_plus text in
     by_bool (λ b. is_budget text ≡ b → is_budget text ≡ false) (is_budget text)
-      (λ is_true _. absurd (
-        let all = all_true _ _ _ _ is_true in
-        let some : 0 < length digits = ltb-true 0 (length digits) all.0 in
-        let small : digits_value 10 digits ≤ 10000000 = leb-true (digits_value 10 digits) 10000000 all.3 in
-        parses ((some, own.to digits all.1), omega arith)))
-      (λ is_false _. is_false) refl
+    (λ is_true _. absurd (
+    let all = all_true _ _ _ _ is_true in
+    let some : 0 < length digits = ltb-true 0 (length digits) all.0 in
+    let small : digits_value 10 digits ≤ 10000000 = leb-true (digits_value 10 digits) 10000000 all.3 in
+    parses ((some, own.to digits all.1), omega arith)))
+    (λ is_false _. is_false) refl

@@ -36,9 +36,9 @@ in_front-push modes mode (Err fault) = refl
 pub record ReadSoFar (most first : ℕ) (names : List (List ℕ)) (at place count : ℕ) (modes : List Mode) (before now : Reading) : Type 0 where
   pub files : now.files ≡ before.files
   pub say : (outcome : Result (List Mode) Fault) → SayModes most before.files place count (drop at names) outcome
-    → SayModes most before.files first 0 names (in_front modes outcome)
+      → SayModes most before.files first 0 names (in_front modes outcome)
   pub fails : (failed : ℕ) (begun : Option (List ℕ)) → FailsReading most before.files place count now.begun (drop at names) failed begun
-    → FailsReading most before.files first 0 before.begun names failed begun
+      → FailsReading most before.files first 0 before.begun names failed begun
 
 pub ReadSoFar-none : (most first : ℕ) (names : List (List ℕ)) (before : Option Reading) → OnTold (ReadSoFar most first names 0 first 0 []) before before
 ReadSoFar-none most first names None = tt
@@ -61,16 +61,16 @@ more_read most first names name at place next count modes mode before now after 
     record {
       files = reads.0 ∙ so_far.files;
       say = λ outcome others.
-        let there : SayModes most before.files (suc place) (count + length mode.clocks) (drop (at + 1) names) outcome =
+          let there : SayModes most before.files (suc place) (count + length mode.clocks) (drop (at + 1) names) outcome =
           subst (λ (n : ℕ). SayModes most before.files n (count + length mode.clocks) (drop (at + 1) names) outcome) e others in
-        let all = so_far.say (with_first mode outcome) (subst (λ (left : List (List ℕ)). SayModes most before.files place count left (with_first mode outcome)) (sym here) (Ok mode, says, (outcome, there, refl))) in
-        subst (SayModes most before.files first 0 names) (in_front-push modes mode outcome) all;
+          let all = so_far.say (with_first mode outcome) (subst (λ (left : List (List ℕ)). SayModes most before.files place count left (with_first mode outcome)) (sym here) (Ok mode, says, (outcome, there, refl))) in
+          subst (SayModes most before.files first 0 names) (in_front-push modes mode outcome) all;
       fails = λ failed begun others.
-        let from_here : FailsReading most before.files next (count + length mode.clocks) (Some name) (drop (at + 1) names) failed begun =
+          let from_here : FailsReading most before.files next (count + length mode.clocks) (Some name) (drop (at + 1) names) failed begun =
           subst (λ (b : Option (List ℕ)). FailsReading most before.files next (count + length mode.clocks) b (drop (at + 1) names) failed begun) reads.1 others in
-        let there : FailsReading most before.files (suc place) (count + length mode.clocks) (Some name) (drop (at + 1) names) failed begun =
+          let there : FailsReading most before.files (suc place) (count + length mode.clocks) (Some name) (drop (at + 1) names) failed begun =
           subst (λ (n : ℕ). FailsReading most before.files n (count + length mode.clocks) (Some name) (drop (at + 1) names) failed begun) e from_here in
-        so_far.fails failed begun (subst (λ (left : List (List ℕ)). FailsReading most before.files place count now.begun left failed begun) (sym here) (inr (mode, says, there)));
+          so_far.fails failed begun (subst (λ (left : List (List ℕ)). FailsReading most before.files place count now.begun left failed begun) (sym here) (inr (mode, says, there)));
     }
 
 pub ReadSoFar-more : (most first : ℕ) (names : List (List ℕ)) (name : List ℕ) (at place next count : ℕ) (modes : List Mode) (mode : Mode) (before now after : Option Reading)
@@ -123,6 +123,8 @@ pub ReadSoFar-all : (line : CommandLine) (at place count : ℕ) (modes : List Mo
 ReadSoFar-all line at place count modes None None none so_far = tt
 ReadSoFar-all line at place count modes None (Some now) none so_far = so_far
 ReadSoFar-all line at place count modes (Some before) None none so_far = so_far
-ReadSoFar-all line at place count modes (Some before) (Some now) none so_far =
-    (so_far.files, subst (λ (all : List Mode). SayModes (most_clocks line) before.files (first_place line) 0 (files_of line) (Ok all)) (append-nil modes)
-      (so_far.say (Ok []) (subst (λ (left : List (List ℕ)). SayModes (most_clocks line) before.files place count left (Ok [])) (sym none) refl)))
+ReadSoFar-all line at place count modes (Some before) (Some now) none so_far = (
+  so_far.files,
+  subst (λ (all : List Mode). SayModes (most_clocks line) before.files (first_place line) 0 (files_of line) (Ok all)) (append-nil modes)
+      (so_far.say (Ok []) (subst (λ (left : List (List ℕ)). SayModes (most_clocks line) before.files place count left (Ok [])) (sym none) refl)),
+)

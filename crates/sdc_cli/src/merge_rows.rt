@@ -65,7 +65,14 @@ fn mode_clocks(
     let mut clocks = List::new(alloc);
     for (at, file) in files.iter().enumerate() {
         let numbers = maps[at].as_slice();
-        push_file_clocks(alloc, &mut clocks, merged, file, modes[at].clocks.as_slice(), numbers)?;
+        push_file_clocks(
+            alloc,
+            &mut clocks,
+            merged,
+            file,
+            modes[at].clocks.as_slice(),
+            numbers,
+        )?;
     }
     Ok(clocks)
 }

@@ -75,7 +75,9 @@ fn view_of(alloc: Global, mode: &Mode) -> Result<View, NoMemory>
     Ok(View {
         mode,
         waves,
-        arrivals: Arrivals { at: List::new(alloc) },
+        arrivals: Arrivals {
+            at: List::new(alloc),
+        },
         clock_map: List::new(alloc),
     })
 }

@@ -32,8 +32,8 @@ pub fn run<I: Inputs, O: Outputs>(
     // Done and WriteFault only where there is an output; Source and TooLarge only for what they name.
     ensures cause { let line = command_line (words_of words.now) in
         CauseFits (λ output. OnModes (λ l modes. IsOutputOf l modes output) (I.told inputs.old) line)
-            (IsLineFault (I.told inputs.old) line)
-            (λ bytes. OnModes (λ l modes. IsTooLargeOf l modes bytes) (I.told inputs.old) line) result }
+        (IsLineFault (I.told inputs.old) line)
+        (λ bytes. OnModes (λ l modes. IsTooLargeOf l modes bytes) (I.told inputs.old) line) result }
 
     // ReadFault and WriteFault only where a count rose.
     ensures read_fault { ReadFaultFits (command_line (words_of words.now))
@@ -45,8 +45,8 @@ pub fn run<I: Inputs, O: Outputs>(
         (I.told inputs.old) (I.told inputs.new) }
     ensures writes { let line = command_line (words_of words.now) in
         OnTold (LeavesWritten (made_by line)
-            (λ output. OnModes (λ l modes. IsOutputOf l modes output) (I.told inputs.old) line) result)
-            (O.told outputs.old) (O.told outputs.new) }
+        (λ output. OnModes (λ l modes. IsOutputOf l modes output) (I.told inputs.old) line) result)
+        (O.told outputs.old) (O.told outputs.new) }
 {
     match command_line(alloc, words) {
         Ok(Some(line)) => run_line(alloc, &line, inputs, outputs),
@@ -64,19 +64,17 @@ fn run_line<I: Inputs, O: Outputs>(
 ) -> Status
     requires { length (files_of line.now) ≤ 16 }
     ensures usage { UsageFits (Some line.now) result }
-    ensures cause {
-        CauseFits (λ output. OnModes (λ l modes. IsOutputOf l modes output) (I.told inputs.old) (Some line.now))
-            (IsLineFault (I.told inputs.old) (Some line.now))
-            (λ bytes. OnModes (λ l modes. IsTooLargeOf l modes bytes) (I.told inputs.old) (Some line.now)) result }
+    ensures cause { CauseFits (λ output. OnModes (λ l modes. IsOutputOf l modes output) (I.told inputs.old) (Some line.now))
+        (IsLineFault (I.told inputs.old) (Some line.now))
+        (λ bytes. OnModes (λ l modes. IsTooLargeOf l modes bytes) (I.told inputs.old) (Some line.now)) result }
     ensures read_fault { ReadFaultFits (Some line.now)
         (I.faults inputs.old) (I.faults inputs.new) result }
     ensures write_fault { WriteFaultFits (O.faults outputs.old) (O.faults outputs.new) result }
     ensures reads { OnTold (LeavesReading (Some line.now) result)
         (I.told inputs.old) (I.told inputs.new) }
-    ensures writes {
-        OnTold (LeavesWritten (made_file line.now)
-            (λ output. OnModes (λ l modes. IsOutputOf l modes output) (I.told inputs.old) (Some line.now)) result)
-            (O.told outputs.old) (O.told outputs.new) }
+    ensures writes { OnTold (LeavesWritten (made_file line.now)
+        (λ output. OnModes (λ l modes. IsOutputOf l modes output) (I.told inputs.old) (Some line.now)) result)
+        (O.told outputs.old) (O.told outputs.new) }
 {
     match line_output(alloc, line, inputs) {
         Ok(output) => write_output(line, &output, outputs),

@@ -32,11 +32,11 @@ loop-at-preserved c =
             (known_step standings numbers at number c.loop-at.merged within read other c.loop-at.invariant.merged)
       ];
       few = elim c.if-number-len.branch [
-          | then-number-len+in_ok-add_merged w ↦
-              subst (λ (m : Merged). length m.clocks ≤ at + 1) (sym w.merged-is) (rw w.in_ok-add_merged.ensures.clocks (grind (arith, common_steps, c.loop-at.invariant.few)))
-          | else-number-len w ↦
-              subst (λ (m : Merged). length m.clocks ≤ at + 1) (sym w.merged-is) (omega (arith, c.loop-at.invariant.few))
-        ];
+        | then-number-len+in_ok-add_merged w ↦
+            subst (λ (m : Merged). length m.clocks ≤ at + 1) (sym w.merged-is) (rw w.in_ok-add_merged.ensures.clocks (grind (arith, common_steps, c.loop-at.invariant.few)))
+        | else-number-len w ↦
+            subst (λ (m : Merged). length m.clocks ≤ at + 1) (sym w.merged-is) (omega (arith, c.loop-at.invariant.few))
+      ];
     }
 
 pub loop-at-init : goal.loop-at-init

@@ -11,7 +11,7 @@ loop-at-preserved c =
     let rest = drop (c.loop-at.at + 1) c.args.words.now in
     let no_option : is_option bytes ≡ false = ap is_option (sym c.as_str.ensures.value) ∙ (sym c.is_option.ensures ∙ c.if-is_option.false) in
     let pushed : c.push.new.self ≡ c.loop-at.found ++ bytes ∷ [] =
-      c.in_ok-push.ensures.ok ∙ ap (λ (text : List ℕ). c.loop-at.found ++ text ∷ []) (c.in_ok-from_str.ensures ∙ c.as_str-in-loop-at.ensures.value) in
+    c.in_ok-push.ensures.ok ∙ ap (λ (text : List ℕ). c.loop-at.found ++ text ∷ []) (c.in_ok-from_str.ensures ∙ c.as_str-in-loop-at.ensures.value) in
     ap (λ (found : List (List ℕ)). in_front_of found (merge_arguments (words_of rest))) pushed
     ∙ (sym (merge_arguments-more c.loop-at.found bytes (words_of rest) no_option)
     ∙ (ap (λ (words : List (String Global)). in_front_of c.loop-at.found (merge_arguments (words_of words))) (sym here) ∙ c.loop-at.invariant))

@@ -8,16 +8,16 @@ pub map_clocks-requires : goal.map_clocks-requires
 map_clocks-requires c =
     let modes = c.args.modes.now in
     let plain : ArePlain (views_of modes) = record {
-        primary = views_are_primary modes c.requires.printable;
-        waves = views_have_waves modes c.requires.printable;
-        few = rw (views_count modes) (omega (arith, c.requires.few));
-      } in
+      primary = views_are_primary modes c.requires.printable;
+      waves = views_have_waves modes c.requires.printable;
+      few = rw (views_count modes) (omega (arith, c.requires.few));
+    } in
     rw (c.in_ok-views.ensures, c.as_slice.ensures) plain
 
 pub overflow_cast-count : goal.overflow_cast-count
 overflow_cast-count c =
     let few : length c.in_ok-clocks.clocks.clocks ≤ clocks_in c.args.modes.now =
-      rw (c.in_ok-views.ensures, c.as_slice.ensures, views_count c.args.modes.now) at c.in_ok-clocks.ensures.few in
+    rw (c.in_ok-views.ensures, c.as_slice.ensures, views_count c.args.modes.now) at c.in_ok-clocks.ensures.few in
     rw c.len-count.ensures (omega (arith, few, c.requires.few))
 
 pub returns-clause-merged : goal.returns-clause-merged

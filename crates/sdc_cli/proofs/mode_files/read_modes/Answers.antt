@@ -12,9 +12,9 @@ pub returns-in_err-mode-clause-told : goal.returns-in_err-mode-clause-told
 returns-in_err-mode-clause-told g c =
     let name = c.index-names-at.result in
     let here : drop c.loop-at.at (files_of c.args.line.now) ≡ name ∷ drop (c.loop-at.at + 1) (files_of c.args.line.now) =
-      rw c.files_of-names.ensures at (drop-item c.files_of-names.result.now c.loop-at.at _ c.loop-at-test.true c.index-names-at.is) in
+    rw c.files_of-names.ensures at (drop-item c.files_of-names.result.now c.loop-at.at _ c.loop-at-test.true c.index-names-at.is) in
     let reads : OnTold (ReadsMode (most_clocks c.args.line.now) c.loop-at.count (first_place c.args.line.now + c.loop-at.at) name (Err c.in_err-mode.field-0.0)) (g.I.Inputs.told c.loop-at.inputs) (g.I.Inputs.told c.read_file.new.inputs) =
-      rw (c.most_clocks-most.ensures, c.first_place-first.ensures, c.as_str.ensures) at c.in_err-mode.ensures.told in
+    rw (c.most_clocks-most.ensures, c.first_place-first.ensures, c.as_str.ensures) at c.in_err-mode.ensures.told in
     let p = err_from_is_err_and c.from_residual.result c.from_residual.ensures.1 in
     rw (p.1, p.2) (ReadSoFar-stops c.args.line.now _ _ _ _ _ _ _ _ _ here c.loop-at.invariant.told reads)
 
@@ -22,9 +22,9 @@ pub loop-at-preserved : goal.loop-at-preserved
 loop-at-preserved g c =
     let name = c.index-names-at.result in
     let here : drop c.loop-at.at (files_of c.args.line.now) ≡ name ∷ drop (c.loop-at.at + 1) (files_of c.args.line.now) =
-      rw c.files_of-names.ensures at (drop-item c.files_of-names.result.now c.loop-at.at _ c.loop-at-test.true c.index-names-at.is) in
+    rw c.files_of-names.ensures at (drop-item c.files_of-names.result.now c.loop-at.at _ c.loop-at-test.true c.index-names-at.is) in
     let reads : OnTold (ReadsMode (most_clocks c.args.line.now) c.loop-at.count (first_place c.args.line.now + c.loop-at.at) name (Ok c.in_ok-mode.mode)) (g.I.Inputs.told c.loop-at.inputs) (g.I.Inputs.told c.read_file.new.inputs) =
-      rw (c.most_clocks-most.ensures, c.first_place-first.ensures, c.as_str.ensures) at c.in_ok-mode.ensures.told in
+    rw (c.most_clocks-most.ensures, c.first_place-first.ensures, c.as_str.ensures) at c.in_ok-mode.ensures.told in
     let next : first_place c.args.line.now + (c.loop-at.at + 1) ≡ suc (first_place c.args.line.now + c.loop-at.at) = omega arith in
     record {
       told = rw (c.len-count.ensures, c.in_ok-push.ensures.ok) (ReadSoFar-more _ _ _ _ _ _ _ _ _ _ _ _ _ here next c.loop-at.invariant.told reads);

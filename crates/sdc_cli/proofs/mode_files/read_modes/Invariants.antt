@@ -8,7 +8,7 @@ use Rattle.sdc_cli.proofs.mode_files.read_modes.Given as goal
 abbrev pub invariant-loop-at : goal.invariant-loop-at
 invariant-loop-at g l = record {
   told : OnTold (ReadSoFar (most_clocks l.line) (first_place l.line) (files_of l.line) l.at (first_place l.line + l.at) l.count l.modes)
-    (g.I.Inputs.told l.fn.inputs) (g.I.Inputs.told l.inputs);
+      (g.I.Inputs.told l.fn.inputs) (g.I.Inputs.told l.inputs);
   counts : g.I.Inputs.faults l.fn.inputs ≤ g.I.Inputs.faults l.inputs;
   each : length l.modes ≡ l.at;
   within : l.count ≤ most_clocks l.line;
