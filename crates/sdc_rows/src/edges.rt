@@ -5,9 +5,9 @@ use sdc_cli::Status;
 use sdc_model::{Fault, Kind, SdcKind};
 use std::test::Fail;
 
-const TWO_CLOCKS: &str = "create_clock -name A -period 10\ncreate_clock -name B -period 15\n";
+pub const TWO_CLOCKS: &str = "create_clock -name A -period 10\ncreate_clock -name B -period 15\n";
 
-const TWO_CLOCKS_REPORT: &str = "a.sdc: A rise -> A rise setup 10 hold 0
+pub const TWO_CLOCKS_REPORT: &str = "a.sdc: A rise -> A rise setup 10 hold 0
 a.sdc: A rise -> A fall setup 5 hold -5
 a.sdc: A rise -> B rise setup 5 hold 0
 a.sdc: A rise -> B fall setup 2.5 hold -2.5
@@ -31,6 +31,12 @@ a.sdc: A fall -> A rise setup 0.000002 hold -0.000001
 a.sdc: A fall -> A fall setup 0.000003 hold 0
 ";
 
+const EARLY_FALL_REPORT: &str = "a.sdc: A rise -> A rise setup 10 hold 0
+a.sdc: A rise -> A fall setup 4 hold -6
+a.sdc: A fall -> A rise setup 6 hold -4
+a.sdc: A fall -> A fall setup 10 hold 0
+";
+
 // Texts of a file and the report of it, worked out by hand.
 #[test]
 fn reports_of_clock_files(rt: HostRuntime) -> Result<(), Fail> {
@@ -49,6 +55,10 @@ fn reports_of_clock_files(rt: HostRuntime) -> Result<(), Fail> {
         (
             "create_clock -name A -period .0000025",
             THREE_FEMTOSECONDS_REPORT,
+        ),
+        (
+            "create_clock -name A -period 10 -waveform {0 4}",
+            EARLY_FALL_REPORT,
         ),
     ] {
         let done = outcome_of(rt.alloc(), "edges a.sdc", &[("a.sdc", text)], 16, NO_FAILS)?;
@@ -79,7 +89,12 @@ fn what_is_not_read(rt: HostRuntime) -> Result<(), Fail> {
         "create_clock -name A",
         "create_clock -period 10 -name A",
         "create_clock -nam A -period 10",
-        "create_clock -name A -period 10 -waveform {0 4}",
+        "create_clock -name A -period 10 -waveform {4}",
+        "create_clock -name A -period 10 -waveform {4 4}",
+        "create_clock -name A -period 10 -waveform {5 15}",
+        "create_clock -name A -period 10 -waveform {-1 4}",
+        "create_clock -name A -period 10 -waveform {0 4 5 6}",
+        "create_clock -waveform {0 4} -name A -period 10",
         "create_clock -name A -period 0.000001",
         "create_clock -name A -period 1000000.000001",
         "create_clock -name A -period ten",

@@ -5,4 +5,12 @@
 #[cfg(test)]
 mod edges;
 #[cfg(test)]
+mod edges_files;
+#[cfg(test)]
+mod merge;
+#[cfg(test)]
+mod merge_faults;
+#[cfg(test)]
+mod merge_words;
+#[cfg(test)]
 mod runs;

@@ -4,6 +4,7 @@ ghost use Rattle.std.specs.Prelude.{◌<◌};
 
 use sdc_base::{List, MemInputs, MemOutputs, NamedBytes, NoMemory, Text};
 use sdc_cli::{Status, run};
+use sdc_model::{Fault, Kind};
 use std::alloc::Global;
 
 /// What a run answered, and what it left.
@@ -60,6 +61,30 @@ pub fn outcome_of(
         inputs,
         outputs,
     })
+}
+
+/// The place and the kind of the fault of a source.
+pub fn fault_of(status: Status) -> Option<(u32, Kind)> {
+    match status {
+        Status::Source(
+            Fault {
+                file,
+                line: _,
+                kind,
+            },
+        ) => Some((file, kind)),
+        _ => None,
+    }
+}
+
+/// A file of so many clocks of one period.
+pub fn equal_clocks(alloc: Global, count: u32) -> Result<String, NoMemory> {
+    let mut text = String::new(alloc);
+    for at in 0..count {
+        let line = format!(in alloc; "create_clock -name c{at} -period 10\n")?;
+        text.push_str(line.as_str())?;
+    }
+    Ok(text)
 }
 
 fn strings(alloc: Global, words: &str) -> Result<Vec<String>, NoMemory> {
