@@ -97,8 +97,10 @@ fn read_file<I: Inputs>(
         Err(Stop::Refused(fault)) => return Err(fault_at(place, fault.line, fault.kind)),
         Err(Stop::NoMemory) => return Err(Status::NoMemory),
     };
-    if mode.clocks.len() > most - count {
-        return Err(fault_at(place, 0, Kind::Sdc(SdcKind::TooMany)));
+    let left = most - count;
+    if mode.clocks.len() > left {
+        let line = mode.clocks.as_slice()[left].line;
+        return Err(fault_at(place, line, Kind::Sdc(SdcKind::TooMany)));
     }
     Ok(mode)
 }
