@@ -7,7 +7,7 @@ use Rattle.std.proofs.lemmas.Bool.Decides.{nat_tests}
 use Rattle.sdc_model.specs.declared.clocks.Pair.{Pair}
 use Rattle.sdc_model.specs.declared.views.View.{View}
 use Rattle.sdc_model.specs.Exclusive.{pair_of, LetsBeTimed, SomeLetsBeTimed}
-use Rattle.clock_map.specs.declared.exclusive.Timing.{Timing}
+use Rattle.clock_map.specs.declared.timings.Timing.{Timing}
 use Rattle.clock_map.specs.Timings.{same_pair, IsTiming, AreTimings, lets_at, lets_time}
 
 abbrev pair : ℕ → ℕ → Pair

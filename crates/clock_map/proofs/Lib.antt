@@ -12,6 +12,8 @@ pub mod PairRows
 pub mod PairSets
 pub mod PlaceLists
 pub mod TimingLists
+pub mod MarkLists
+pub mod FirstClocks
 pub mod ExclusiveLists
 pub mod PairOrder
 pub mod LawLists

@@ -8,7 +8,7 @@ use Rattle.std.proofs.lemmas.Option.{slice_get_within, get_or_from_slice_get}
 use Rattle.sdc_model.specs.declared.clocks.Pair.{Pair}
 use Rattle.sdc_model.specs.declared.views.View.{View}
 use Rattle.sdc_model.specs.Exclusive.{ComesBefore, AreExclusivePairs}
-use Rattle.clock_map.specs.declared.exclusive.Timing.{Timing}
+use Rattle.clock_map.specs.declared.timings.Timing.{Timing}
 use Rattle.clock_map.specs.Timings.{AreTimings, lets_time, pair_unless, row_from, row, rows_from}
 use Rattle.clock_map.proofs.ExclusiveLists.{some_says, some_shows}
 

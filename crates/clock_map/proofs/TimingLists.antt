@@ -1,10 +1,11 @@
 -- What is kept of each mode, mode by mode.
 use Rattle.std.proofs.Common.{◌≡◌, ℕ, zero, suc, ◌+◌, ◌<◌, ◌≤◌, List, [], ◌∷◌, ◌++◌, length, take, get_or, refl, sym, ap, ◌∙◌, subst, arith}
 use Rattle.std.proofs.lemmas.List.{take_more, take_all, length-take-le}
+use Rattle.std.proofs.lemmas.List.Elements.{All-nil, All-cons}
 use Rattle.sdc_model.specs.declared.views.View.{View}
 use Rattle.sdc_model.specs.Exclusive.{IsApart, AreApart}
-use Rattle.clock_map.specs.declared.exclusive.Timing.{Timing}
-use Rattle.clock_map.specs.Timings.{ArePlaces, HoldsPairs, IsTiming, AreTimings, KnowClock}
+use Rattle.clock_map.specs.declared.timings.Timing.{Timing}
+use Rattle.clock_map.specs.Timings.{ArePlaces, HoldsPairs, IsTiming, AreTimings, FitsClocks, AllFit}
 
 pub apart_at : (maps : List (List ℕ)) (i : ℕ) (numbers : List ℕ) → AreApart maps → i < length maps → numbers ≡ get_or maps i numbers → IsApart numbers
 apart_at maps i numbers apart within is = subst IsApart (sym is) (at_place maps i numbers apart within) where
@@ -26,14 +27,14 @@ timings_push count (v ∷ views) (n ∷ maps) (t ∷ timings) view numbers timin
 
 pub timings_step : (count : ℕ) (views : List View) (maps : List (List ℕ)) (i : ℕ) (timings timings' : List Timing) (view : View) (numbers : List ℕ) (timing : Timing)
     → length maps ≡ length views → i < length views → view ≡ get_or views i view → numbers ≡ get_or maps i numbers
-    → ArePlaces count numbers timing.places.items → HoldsPairs view.mode.exclusive timing.exclusive.keys → timings' ≡ timings ++ timing ∷ []
+    → timing.numbers ≡ numbers → ArePlaces count numbers timing.places.items → HoldsPairs view.mode.exclusive timing.exclusive.keys → timings' ≡ timings ++ timing ∷ []
     → AreTimings count (take i views) (take i maps) timings → AreTimings count (take (i + 1) views) (take (i + 1) maps) timings'
-timings_step count views maps i timings timings' view numbers timing beside within view_is numbers_is places pairs timings_is known =
+timings_step count views maps i timings timings' view numbers timing beside within view_is numbers_is kept places pairs timings_is known =
     let within' : i < length maps = omega arith in
     let more : take (i + 1) views ≡ take i views ++ view ∷ [] = take_more views i view within ∙ ap (λ v. take i views ++ v ∷ []) (sym view_is) in
     let more' : take (i + 1) maps ≡ take i maps ++ numbers ∷ [] = take_more maps i numbers within' ∙ ap (λ n. take i maps ++ n ∷ []) (sym numbers_is) in
     let short : length (take i maps) ≡ length (take i views) = length-take-le i maps (omega arith) ∙ sym (length-take-le i views (omega arith)) in
-    rw (more, more', timings_is) (timings_push count (take i views) (take i maps) timings view numbers timing short known (record { places = places; pairs = pairs }))
+    rw (more, more', timings_is) (timings_push count (take i views) (take i maps) timings view numbers timing short known (record { kept = kept; places = places; pairs = pairs }))
 
 pub timings_done : (count : ℕ) (views : List View) (maps : List (List ℕ)) (i : ℕ) (timings : List Timing) → length maps ≡ length views → length views ≤ i
     → AreTimings count (take i views) (take i maps) timings → AreTimings count views maps timings
@@ -42,14 +43,12 @@ timings_done count views maps i timings beside done known =
     let all' : take i maps ≡ maps = take_all i maps (omega arith) in
     subst (λ (ms : List (List ℕ)). AreTimings count views ms timings) all' (subst (λ (vs : List View). AreTimings count vs (take i maps) timings) all known)
 
--- each merged clock is known of each mode
-pub clocks_known : (count : ℕ) (views : List View) (maps : List (List ℕ)) (timings : List Timing) (k : ℕ) → AreTimings count views maps timings → k < count → KnowClock timings k
-clocks_known count [] maps timings k known below p d within =
-    let none : length timings ≡ 0 = ap length known in absurd (omega arith)
-clocks_known count (view ∷ views) [] timings k known below p d within =
-    let none : length timings ≡ 0 = ap length known in absurd (omega arith)
-clocks_known count (view ∷ views) (numbers ∷ maps) [] k known below p d within = absurd known
-clocks_known count (view ∷ views) (numbers ∷ maps) (timing ∷ timings) k known below zero d within =
-    let long = known.0.places.0 in omega (arith, timing.places.ok.0)
-clocks_known count (view ∷ views) (numbers ∷ maps) (timing ∷ timings) k known below (suc p) d within =
-    clocks_known count views maps timings k known.1 below p d (omega arith)
+-- what is kept of each mode is of so many merged clocks
+pub timings_fit : (count : ℕ) (views : List View) (maps : List (List ℕ)) (timings : List Timing) → AreTimings count views maps timings → AllFit count timings
+timings_fit count [] maps timings known = subst (AllFit count) (sym known) (All-nil (FitsClocks count))
+timings_fit count (view ∷ views) [] timings known = subst (AllFit count) (sym known) (All-nil (FitsClocks count))
+timings_fit count (view ∷ views) (numbers ∷ maps) [] known = absurd known
+timings_fit count (view ∷ views) (numbers ∷ maps) (timing ∷ timings) known =
+    All-cons (FitsClocks count) timing timings
+    (subst (λ (ns : List ℕ). ArePlaces count ns timing.places.items) (sym known.0.kept) known.0.places)
+    (timings_fit count views maps timings known.1)

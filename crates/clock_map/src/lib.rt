@@ -17,13 +17,14 @@ mod rows;
 mod standings;
 #[cfg(test)]
 mod tests;
+mod timings;
 
 ghost use Rattle.std.specs.Prelude.{◌≡◌, ◌≤◌, length, IfOk};
 ghost use Rattle.sdc_model.specs.ClockIdentity.{IsClockMap};
 ghost use Rattle.sdc_model.specs.Exclusive.{AreApart};
 ghost use Rattle.sdc_model.specs.PlainViews.{ArePlain, clock_count};
 
-pub use exclusive::exclusive_pairs;
+pub use exclusive::{ExclusiveRows, exclusive_pairs};
 pub use map_laws::{
     clocks_of_a_mode_are_apart, equal_modes_share_clocks, merged_clocks_come_from_modes,
     merged_names_are_apart,

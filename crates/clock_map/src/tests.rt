@@ -176,6 +176,13 @@ fn exclusive(
     let map = map_clocks(alloc, &views)?;
     let count = u32::try_from(map.clocks.len())?;
     let pairs = exclusive_pairs(alloc, &views, &map.maps, count)?;
+    let rows = ExclusiveRows::new(alloc, &views, &map.maps, count)?;
+    let mut put_together = List::new(alloc);
+    for first in 0..count {
+        rows.push_row(alloc, &mut put_together, first)?;
+    }
+    rows.push_row(alloc, &mut put_together, count)?;
+    assert!(rt; put_together.as_slice() == pairs.as_slice());
     let mut text = String::new(alloc);
     for pair in pairs.iter() {
         let word = format!(in alloc; "({} {})", pair.first, pair.second)?;

@@ -1,25 +1,15 @@
-use Rattle.std.proofs.Common.{◌≡◌, ◌∙◌, ◌++◌, sym, ap}
-use Rattle.std.proofs.lemmas.List.{append-nil}
-use Rattle.clock_map.specs.Timings.{pair_unless}
-use Rattle.clock_map.proofs.PairRows.{row_step}
+use Rattle.std.proofs.Common.{◌≡◌, ◌∙◌, ◌+◌, ◌-◌, ◌++◌, ap, arith}
+use Rattle.clock_map.specs.Timings.{others_from, row}
+use Rattle.clock_map.proofs.FirstClocks.{others_are_row}
 use Rattle.clock_map.proofs.exclusive.add_row.Goals as goal
-use Rattle.clock_map.proofs.exclusive.add_row.Goals.{then-not-are_timed+in_ok-push, else-not-are_timed}
 
-pub are_timed-requires-clause-first : goal.are_timed-requires-clause-first
-are_timed-requires-clause-first c = c.requires.known c.args.first c.requires.within
-
-pub are_timed-requires-clause-second : goal.are_timed-requires-clause-second
-are_timed-requires-clause-second c = c.requires.known c.loop-second.second c.loop-second-test.true
-
-pub loop-second-preserved : goal.loop-second-preserved
-loop-second-preserved c =
-    let a = c.args.first in
-    let b = c.loop-second.second in
-    let before = c.loop-second.pairs in
-    let added : c.if-not-are_timed.pairs ≡ before ++ pair_unless c.are_timed.result a b =
-    elim c.if-not-are_timed.branch [
-      | then-not-are_timed+in_ok-push w ↦ w.pairs-is ∙ w.in_ok-push.ensures.ok ∙ ap (λ t. before ++ pair_unless t a b) (sym w.if-not-are_timed.true)
-      | else-not-are_timed w ↦ w.pairs-is ∙ sym (append-nil before) ∙ ap (λ t. before ++ pair_unless t a b) (sym w.if-not-are_timed.false)
-    ] in
-    row_step c.args.timings.now a b c.args.count before c.if-not-are_timed.pairs _ c.are_timed.result
-    c.loop-second-test.true c.are_timed.ensures added c.loop-second.invariant
+pub returns : goal.returns
+returns c =
+    let first = c.args.first in
+    let behind = c.args.count - (first + 1) in
+    let flags = c.in_ok-timed.timed.items in
+    let others : others_from flags first (first + 1) behind ≡ row c.args.timings.now c.args.count first =
+    others_are_row c.args.timings.now c.args.count first flags (first + 1) behind c.in_ok-timed.ensures (omega arith) (omega (arith, c.requires.within)) in
+    c.in_ok-add_others.ensures
+    ∙ ap (λ fs. c.args.pairs.now ++ others_from fs first (first + 1) behind) c.deref.ensures.value
+    ∙ ap (λ ps. c.args.pairs.now ++ ps) others

@@ -3,8 +3,8 @@ use Rattle.std.proofs.lemmas.List.{length-replicate, get_or-replicate}
 use Rattle.std.specs.Prelude.{Option, slice_get}
 use Rattle.std.proofs.lemmas.Option.{slice_get-get_or}
 use Rattle.clock_map.proofs.PlaceLists.{PlacesSoFar, place_set, place_kept, no_places, places_done}
-use Rattle.clock_map.proofs.exclusive.places_of.Goals as goal
-use Rattle.clock_map.proofs.exclusive.places_of.Goals.{then-number-count, else-number-count}
+use Rattle.clock_map.proofs.timings.places_of.Goals as goal
+use Rattle.clock_map.proofs.timings.places_of.Goals.{then-number-count, else-number-count}
 
 pub loop-place-preserved : goal.loop-place-preserved
 loop-place-preserved c =

@@ -3,7 +3,7 @@ use Rattle.std.proofs.lemmas.List.{take_all}
 use Rattle.sdc_model.specs.declared.clocks.Pair.{Pair}
 use Rattle.clock_map.specs.Timings.{HoldsPairs}
 use Rattle.clock_map.proofs.PairSets.{pairs_step}
-use Rattle.clock_map.proofs.exclusive.pairs_in.Goals as goal
+use Rattle.clock_map.proofs.timings.pairs_in.Goals as goal
 
 pub loop-pair-preserved : goal.loop-pair-preserved
 loop-pair-preserved c =

@@ -1,7 +1,0 @@
--- The pairs so far, and the rows of the merged clocks that are left, are all.
-use Rattle.std.proofs.Common.{◌≡◌, ◌++◌, ◌-◌}
-use Rattle.clock_map.specs.Timings.{rows_from}
-use Rattle.clock_map.proofs.exclusive.exclusive_pairs.Given as goal
-
-abbrev pub invariant-loop-first : goal.invariant-loop-first
-invariant-loop-first l = l.pairs ++ rows_from l.timings.items l.count l.first (l.count - l.first) ≡ rows_from l.timings.items l.count 0 l.count
