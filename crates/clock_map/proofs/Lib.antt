@@ -19,3 +19,6 @@ pub mod PairOrder
 pub mod LawLists
 pub mod SharedClocks
 pub mod PlainLists
+pub mod OneNumbering
+pub mod OneMap
+pub mod RisingPairs

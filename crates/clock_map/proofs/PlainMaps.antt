@@ -80,7 +80,7 @@ no_master : (arrivals : Arrivals) (place : ℕ) (form : Form) → IsPrimary form
 no_master arrivals place (Primary wave) h = refl
 no_master arrivals place (Generated source master shape invert) h = absurd h
 
-no_master_among : (arrivals : Arrivals) (place : ℕ) (clocks : List Clock) (i : ℕ) → ArePrimary clocks
+pub no_master_among : (arrivals : Arrivals) (place : ℕ) (clocks : List Clock) (i : ℕ) → ArePrimary clocks
     → option_and_then (λ clock. master_of arrivals place clock.form) (slice_get clocks i) ≡ None
 no_master_among arrivals place [] i primary = refl
 no_master_among arrivals place (clock ∷ clocks) zero primary = no_master arrivals place clock.form primary.0

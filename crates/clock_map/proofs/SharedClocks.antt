@@ -143,7 +143,7 @@ primary_view [] m view primary e = cc
 primary_view (first ∷ views) zero view primary e = let same : first ≡ view = cc in subst (λ (v : View). ArePrimary v.mode.clocks) same primary.0
 primary_view (first ∷ views) (suc m) view primary e = primary_view views m view primary.1 e
 
-same_lists : (xs ys : List ℕ) → length xs ≡ length ys → ((i : ℕ) → i < length xs → slice_get xs i ≡ slice_get ys i) → xs ≡ ys
+pub same_lists : {X : Type 0} (xs ys : List X) → length xs ≡ length ys → ((i : ℕ) → i < length xs → slice_get xs i ≡ slice_get ys i) → xs ≡ ys
 same_lists [] [] long each = refl
 same_lists [] (y ∷ ys) long each = absurd (omega arith)
 same_lists (x ∷ xs) [] long each = absurd (omega arith)

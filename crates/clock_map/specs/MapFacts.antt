@@ -1,10 +1,13 @@
 -- What is true of every clock map: equal modes share their clocks, merged clocks come from modes, and names differ.
--- It reads as laws of the definition of clock identity.
+-- There is one clock map, and one list of exclusive pairs. It reads as laws of the definitions of both.
 use Rattle.std.specs.Prelude.{◌≡◌, ◌<◌, ℕ, List, Some, slice_get}
 use Rattle.std.specs.List.{Contains, concat}
 use Rattle.sdc_model.specs.declared.clocks.Clock.{Clock}
+use Rattle.sdc_model.specs.declared.clocks.Pair.{Pair}
 use Rattle.sdc_model.specs.declared.views.View.{View}
 use Rattle.sdc_model.specs.declared.views.ClockMap.{ClockMap}
+use Rattle.sdc_model.specs.ClockIdentity.{IsClockMap}
+use Rattle.sdc_model.specs.Exclusive.{AreExclusivePairs}
 use Rattle.sdc_model.specs.PlainViews.{HaveSameClocks}
 
 -- modes with the same clocks share them all
@@ -22,3 +25,12 @@ abbrev pub HasDistinctNames : ClockMap → Type 0
 HasDistinctNames map =
     (k l : ℕ) (first second : Clock) → k < l → slice_get map.clocks k ≡ Some first → slice_get map.clocks l ≡ Some second
     → first.name ≡ second.name → ⊥
+
+-- two clock maps of the same modes are one
+abbrev pub HaveOneMap : List View → Type 0
+HaveOneMap views = (a b : ClockMap) → IsClockMap views a → IsClockMap views b → a ≡ b
+
+-- two lists of exclusive pairs of the same merged clocks are one
+abbrev pub HaveOneListOfPairs : List View → List (List ℕ) → ℕ → Type 0
+HaveOneListOfPairs views maps count =
+    (a b : List Pair) → AreExclusivePairs views maps count a → AreExclusivePairs views maps count b → a ≡ b

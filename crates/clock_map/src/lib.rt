@@ -27,7 +27,7 @@ ghost use Rattle.sdc_model.specs.PlainViews.{ArePlain, clock_count};
 pub use exclusive::{ExclusiveRows, exclusive_pairs};
 pub use map_laws::{
     clocks_of_a_mode_are_apart, equal_modes_share_clocks, merged_clocks_come_from_modes,
-    merged_names_are_apart,
+    merged_clocks_have_one_list_of_pairs, merged_names_are_apart, modes_have_one_map,
 };
 pub use plain_views::are_plain;
 use sdc_base::{List, NoMemory};

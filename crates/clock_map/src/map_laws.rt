@@ -1,12 +1,12 @@
-//! What is true of every clock map, whoever found it.
+//! What is true of every clock map and of every list of exclusive pairs, whoever found them.
 
-ghost use Rattle.std.specs.Prelude.{List};
+ghost use Rattle.std.specs.Prelude.{ℕ, List};
 ghost use Rattle.sdc_model.specs.declared.views.View.{View};
 ghost use Rattle.sdc_model.specs.declared.views.ClockMap.{ClockMap};
 ghost use Rattle.sdc_model.specs.ClockIdentity.{IsClockMap};
 ghost use Rattle.sdc_model.specs.PlainViews.{ModesArePrimary, HaveWaves};
 ghost use Rattle.sdc_model.specs.Exclusive.{AreApart};
-ghost use Rattle.clock_map.specs.MapFacts.{SharesEqualModes, ComesFromModes, HasDistinctNames};
+ghost use Rattle.clock_map.specs.MapFacts.{SharesEqualModes, ComesFromModes, HasDistinctNames, HaveOneMap, HaveOneListOfPairs};
 
 /// No two clocks of one mode are one merged clock.
 pub fn clocks_of_a_mode_are_apart()
@@ -28,4 +28,15 @@ pub fn merged_clocks_come_from_modes()
 /// No two merged clocks have one name.
 pub fn merged_names_are_apart()
     ensures { (views : List View) (map : ClockMap) → IsClockMap views map → HasDistinctNames map }
+{}
+
+/// Modes without generated clocks have one clock map.
+pub fn modes_have_one_map()
+    ensures { (views : List View) → ModesArePrimary views → HaveOneMap views }
+{}
+
+/// Merged clocks have one list of exclusive pairs.
+pub fn merged_clocks_have_one_list_of_pairs()
+    ensures { (views : List View) (maps : List (List ℕ)) (count : ℕ)
+        → HaveOneListOfPairs views maps count }
 {}
