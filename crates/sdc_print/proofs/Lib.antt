@@ -5,6 +5,7 @@ pub mod FileReads
 pub mod FileText
 pub mod GroupFacts
 pub mod GroupLines
+pub mod GroupLengths
 pub mod GroupPairs
 pub mod LineFacts
 pub mod PrintableFacts

@@ -1,4 +1,5 @@
--- Pairs with one first place that stand one behind the other. Small words for this crate's private functions.
+-- Pairs with one first place that stand one behind the other, and the bytes of the line of each such run: small words
+-- for this crate's functions.
 use Rattle.std.specs.Prelude.{ℕ, suc, ◌==◌, List, [], ◌∷◌, map, if◌then◌else◌}
 use Rattle.sdc_model.specs.declared.clocks.Clock.{Clock}
 use Rattle.sdc_model.specs.declared.clocks.Pair.{Pair}

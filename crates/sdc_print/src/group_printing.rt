@@ -37,7 +37,7 @@ fn group_size(pairs: &[Pair], place: usize) -> usize
 }
 
 /// Adds the line that makes a clock and the second ones of some pairs exclusive, where there are any.
-fn push_group(
+pub fn push_group(
     out: &mut Sink,
     name: &[u8],
     clocks: &List<Clock>,

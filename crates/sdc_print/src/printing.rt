@@ -5,12 +5,13 @@ ghost use Rattle.sdc_base.specs.Time.{IsUnit};
 ghost use Rattle.sdc_model.specs.PrintedLine.{lines_text};
 ghost use Rattle.sdc_model.specs.PrintedFile.{IsPrintable, header_lines, printed_file, unit_text};
 ghost use Rattle.sdc_print.specs.Added.{added};
+ghost use Rattle.sdc_print.specs.Runs.{group_text};
 
 use crate::clock_printing::push_clocks;
-use crate::group_printing::push_groups;
+use crate::group_printing::{push_group, push_groups};
 use crate::sinks::Sink;
 use sdc_base::{List, NoMemory};
-use sdc_model::{Design, Mode};
+use sdc_model::{Clock, Design, Mode, Pair};
 use std::alloc::Global;
 
 /// The constraint file (SDC 2.1) that gives a mode over a design, with times in the design's unit: the header, the
@@ -35,6 +36,26 @@ pub fn printed_length(alloc: Global, design: &Design, mode: &Mode) -> Result<u64
 {
     let mut out = Sink::Count(0);
     push_file(&mut out, alloc, design, mode)?;
+    match out {
+        Sink::Count(count) => Ok(count),
+        Sink::Bytes(_) => unreachable!(),
+    }
+}
+
+/// The number of bytes of the line that makes a clock and the second ones of some pairs exclusive, which is not made;
+/// 0 where there are no pairs. The file of a mode is that of its clocks alone, then such a line for each clock, with
+/// the pairs of which it is the first. The one error is want of memory, and that is also the answer where the number
+/// passes 64 bits.
+pub fn group_length(
+    clock: &Clock,
+    clocks: &List<Clock>,
+    pairs: &List<Pair>,
+) -> Result<u64, NoMemory>
+    ensures { IfOk result
+        (λ count. count ≡ length (group_text clock.now.name clocks.now pairs.now)) }
+{
+    let mut out = Sink::Count(0);
+    push_group(&mut out, clock.name.as_bytes(), clocks, pairs.as_slice())?;
     match out {
         Sink::Count(count) => Ok(count),
         Sink::Bytes(_) => unreachable!(),

@@ -1,7 +1,9 @@
 //! Printed files as a person wrote them down.
 
 use crate::printable_modes::{Row, printable};
-use crate::{print, printed_length};
+use crate::{group_length, print, printed_length};
+use sdc_base::List;
+use sdc_model::Pair;
 use std::alloc::Global;
 use std::process::Abort;
 use std::test::Fail;
@@ -87,6 +89,45 @@ set_clock_groups -asynchronous -group [get_clocks {A}] -group [get_clocks {C D}]
 set_clock_groups -asynchronous -group [get_clocks {B}] -group [get_clocks {D}]
 ",
     )
+}
+
+#[test]
+fn lengths_of_groups(rt: HostRuntime) -> Result<(), Fail> {
+    let alloc = rt.alloc();
+    let rows = [
+        ("A", 10_000_000, 0, 5_000_000),
+        ("long_name", 15_000_000, 0, 7_500_000),
+        ("C", 20_000_000, 0, 10_000_000),
+    ];
+    let cases: [(&[u32], &str); 3] = [
+        (&[], ""),
+        (
+            &[2],
+            "set_clock_groups -asynchronous -group [get_clocks {A}] -group [get_clocks {C}]\n",
+        ),
+        (
+            &[1, 2],
+            "set_clock_groups -asynchronous -group [get_clocks {A}] -group [get_clocks {long_name C}]\n",
+        ),
+    ];
+    for (seconds, line) in cases {
+        let mut pairs = List::new(alloc);
+        for second in seconds {
+            pairs.push(Pair {
+                first: 0,
+                second: *second,
+            })?;
+        }
+        let found = printable(alloc, NANOSECOND, &rows, &[])?;
+        assert!(rt; found.is_some());
+        if let Some(case) = found
+            && let Some(clock) = case.mode.clocks.get(0)
+        {
+            let length = group_length(clock, &case.mode.clocks, &pairs)?;
+            assert_eq!(rt; length, line.len() as u64, "{line}");
+        }
+    }
+    Ok(())
 }
 
 #[test]
