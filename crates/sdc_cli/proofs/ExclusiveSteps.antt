@@ -11,7 +11,8 @@ use Rattle.sdc_model.specs.declared.clocks.Pair.{Pair}
 use Rattle.sdc_model.specs.ClockGroups.{Groups, is_among, is_parted, pairs_from, exclusive_pairs}
 use Rattle.sdc_cli.specs.Exclusive.{GroupsBelow, HasMore, HasSame, has_pair, pair_cmp, parts, parts_some, parts_any, parts_in}
 use Rattle.sdc_cli.proofs.GroupPlaces.{either}
-use Rattle.sdc_cli.proofs.RisingPairs.{pair_is_parted, pair_is_same, before_from_less, AllAfter, Rising, Among, same_lists}
+use Rattle.clock_map.proofs.RisingPairs.{AllAfter, Rising, Among, same_lists}
+use Rattle.sdc_cli.proofs.RisingPairs.{pair_is_parted, pair_is_same, before_from_less}
 use Rattle.sdc_cli.proofs.PairLists.{from_sound, from_complete, rising_from}
 
 or_else : (t old : Bool) → cond t true old ≡ (old || t)

@@ -10,6 +10,8 @@ pub mod ItemSteps
 pub mod MergedClocks
 pub mod MergedModes
 pub mod ModeSteps
+pub mod OneAnswer
+pub mod OneMerge
 pub mod OneOutcome
 pub mod OneReport
 pub mod PairLists

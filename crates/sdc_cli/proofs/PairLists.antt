@@ -3,7 +3,7 @@ use Rattle.std.proofs.Common.{◌≡◌, ◌<◌, ◌≤◌, ◌==◌, ◌+◌, 
 use Rattle.std.proofs.lemmas.Bool.Decides.{Decides-eqb, nat_tests}
 use Rattle.sdc_model.specs.declared.clocks.Pair.{Pair}
 use Rattle.sdc_model.specs.ClockGroups.{Groups, is_parted, pairs_with, pairs_from}
-use Rattle.sdc_cli.proofs.RisingPairs.{Before, AllAfter, Rising, Among}
+use Rattle.clock_map.proofs.RisingPairs.{Before, AllAfter, Rising, Among}
 
 -- lists of pairs
 all_after : (p : Pair) (qs : List Pair) → ((q : Pair) → Among q qs → Before p q) → AllAfter p qs
