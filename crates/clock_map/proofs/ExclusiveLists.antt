@@ -2,7 +2,7 @@
 use Rattle.std.proofs.Common.{◌≡◌, ℕ, ◌<◌, ◌≤◌, Bool, true, false, not, List, [], ◌∷◌, get_or, Option, Some, None, refl, sym, ap, ◌∙◌, subst, inl, inr, arith, min, max}
 use Rattle.std.specs.Prelude.{◌⊎◌, ◌↔◌, ◌||◌, nat_le, if◌then◌else◌}
 use Rattle.std.specs.List.{Contains, list_any}
-use Rattle.std.proofs.lemmas.Bool.{false≢true}
+use Rattle.std.proofs.lemmas.Bool.{false≢true, not-true, or_left, or_right}
 use Rattle.std.proofs.lemmas.Bool.Decides.{nat_tests}
 use Rattle.sdc_model.specs.declared.clocks.Pair.{Pair}
 use Rattle.sdc_model.specs.declared.views.View.{View}
@@ -30,16 +30,12 @@ ordered p q = by_test (nat_le p q) refl where
       let high : p ≡ max p q = omega arith in
       ap (λ t. if t then pair p q else pair q p) e ∙ (λ i. pair (low i) (high i))
 
-not_true : (b : Bool) → not b ≡ true → b ≡ false
-not_true true e = absurd (false≢true e)
-not_true false e = refl
-
 -- what the test of two places says
 lets_at_says : (keys : List (ℕ × ℕ)) (first second : Option ℕ) → lets_at keys first second ≡ true
     → (p : ℕ) × (q : ℕ) × (first ≡ Some p) × (second ≡ Some q) × (list_any (same_pair (min p q, max p q)) keys ≡ false)
 lets_at_says keys None second e = absurd (false≢true e)
 lets_at_says keys (Some p) None e = absurd (false≢true e)
-lets_at_says keys (Some p) (Some q) e = (p, q, refl, refl, not_true (list_any (same_pair (min p q, max p q)) keys) e)
+lets_at_says keys (Some p) (Some q) e = (p, q, refl, refl, not-true (list_any (same_pair (min p q, max p q)) keys) e)
 
 -- a mode lets two merged clocks be timed exactly where its test says so
 pub mode_lets : (count : ℕ) (view : View) (numbers : List ℕ) (timing : Timing) (a b : ℕ) → IsTiming count view numbers timing → a < count → b < count
@@ -79,14 +75,6 @@ mode_lets count view numbers timing a b known a_within b_within = (says, shows) 
 or_cases : (a b : Bool) → (a || b) ≡ true → (a ≡ true) ⊎ (b ≡ true)
 or_cases true b e = inl refl
 or_cases false b e = inr e
-
-or_left : (a b : Bool) → a ≡ true → (a || b) ≡ true
-or_left true b e = refl
-or_left false b e = absurd (false≢true e)
-
-or_right : (a b : Bool) → b ≡ true → (a || b) ≡ true
-or_right true b e = refl
-or_right false b e = e
 
 pub some_says : (count : ℕ) (views : List View) (maps : List (List ℕ)) (timings : List Timing) (a b : ℕ) → AreTimings count views maps timings → a < count → b < count
     → list_any (lets_time a b) timings ≡ true → SomeLetsBeTimed views maps a b

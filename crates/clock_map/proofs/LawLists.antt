@@ -8,7 +8,7 @@ use Rattle.std.specs.Cmp.Lexicographic.{slice_cmp}
 use Rattle.std.specs.Option.{option_map, unwrap_or}
 use Rattle.std.specs.Ordering.{ordering_reverse}
 use Rattle.std.specs.List.{count_by}
-use Rattle.std.proofs.lemmas.Bool.{false≢true}
+use Rattle.std.proofs.lemmas.Bool.{and_parts, false≢true}
 use Rattle.std.proofs.lemmas.Cmp.{tied_itself, nat_list_cmp_total, nat_cmp_total, on_total, then_total}
 use Rattle.std.proofs.lemmas.Map.Lookups.{exact_unsigned}
 use Rattle.sdc_model.specs.declared.clocks.Clock.{Clock}
@@ -33,10 +33,6 @@ lt_is : (o : Ordering) → is_lt o ≡ true → o ≡ Less
 lt_is Less e = refl
 lt_is Equal e = absurd (false≢true e)
 lt_is Greater e = absurd (false≢true e)
-
-both_true : (a b : Bool) → (a && b) ≡ true → (a ≡ true) × (b ≡ true)
-both_true true b e = (refl, e)
-both_true false b e = absurd (false≢true e)
 
 count_grows : {X : Type 0} (p q : X → Bool) (xs : List X) → ((x : X) → p x ≡ true → q x ≡ true) → count_by p xs ≤ count_by q xs
 count_grows p q [] more = omega arith
@@ -77,7 +73,7 @@ rank_below all i x y at same less =
     count_exceeds (λ z. same_definition z.definition x.definition && is_ahead z x) (λ z. same_definition z.definition y.definition && is_ahead z y) all i x more at fails passes where
       more : (z : Standing) → (same_definition z.definition x.definition && is_ahead z x) ≡ true → (same_definition z.definition y.definition && is_ahead z y) ≡ true
       more z e =
-          let parts = both_true (same_definition z.definition x.definition) (is_ahead z x) e in
+          let parts = and_parts (same_definition z.definition x.definition) (is_ahead z x) e in
           let ahead : ahead_cmp z y ≡ Less = ahead_total.trans z x y (lt_is (ahead_cmp z x) parts.1) less in
           ap (λ b. b && is_ahead z y) (ap (λ d. same_definition z.definition d) (sym same) ∙ parts.0) ∙ ap is_lt ahead
 

@@ -1,7 +1,7 @@
 -- Where each merged clock stands in a mode.
 use Rattle.std.proofs.Common.{◌≡◌, ◌≢◌, ℕ, ◌+◌, ◌<◌, ◌≤◌, List, length, get_or, set, Option, Some, None, sym, ap, ◌∙◌, inl, inr, arith, get_or-set_same, get_or-set_other}
-use Rattle.std.specs.Prelude.{◌⊎◌, ◌↔◌, slice_get}
-use Rattle.std.proofs.lemmas.Bool.{cases_lt}
+use Rattle.std.specs.Prelude.{◌↔◌, slice_get}
+use Rattle.std.proofs.lemmas.Bool.{cases_eq, cases_lt}
 use Rattle.std.proofs.lemmas.List.{length-set}
 use Rattle.std.proofs.lemmas.Option.{slice_get_within}
 use Rattle.sdc_model.specs.Exclusive.{IsApart}
@@ -12,18 +12,11 @@ pub record PlacesSoFar (count : ℕ) (numbers : List ℕ) (i : ℕ) (places : Li
   pub long : length places ≡ count
   pub at : (k place : ℕ) → k < count → (get_or places k None ≡ Some place) ↔ ((place < i) × (slice_get numbers place ≡ Some k))
 
--- equal or not
-pub apart_or_same : (a b : ℕ) → (a ≡ b) ⊎ (a ≢ b)
-apart_or_same a b = elim (cases_lt a b) [
-  | inl less ↦ inr (λ e. absurd (omega arith))
-  | inr more ↦ elim (cases_lt b a) [ inl less ↦ inr (λ e. absurd (omega arith)) | inr equal ↦ inl (omega arith) ]
-]
-
 pub place_set : (count : ℕ) (numbers : List ℕ) (i number : ℕ) (places places' : List (Option ℕ)) → IsApart numbers → i < length numbers → slice_get numbers i ≡ Some number
     → number < count → places' ≡ set places number (Some i) → PlacesSoFar count numbers i places → PlacesSoFar count numbers (i + 1) places'
 place_set count numbers i number places places' apart within here known places_is so_far = record {
   long = ap length places_is ∙ length-set places number (Some i) ∙ so_far.long;
-  at = λ k place below. elim (apart_or_same k number) [
+  at = λ k place below. elim (cases_eq k number) [
     | inl same ↦
         let long = so_far.long in
         let within' : number < length places = omega arith in

@@ -14,9 +14,21 @@ const B_RISE: (i64, i64) = (0, 15_000_000);
 
 const B_FALL: (i64, i64) = (7_500_000, 15_000_000);
 
+/// The relation of two edges, each with the period of its clock, where both are in range.
+fn relation_of(launch: (i64, i64), capture: (i64, i64)) -> Option<Relation> {
+    let ((a, p), (b, q)) = (launch, capture);
+    if a < 0 || a > LAST_TIME || p < 1 || p > LAST_PERIOD {
+        return None;
+    }
+    if b < 0 || b > LAST_TIME || q < 1 || q > LAST_PERIOD {
+        return None;
+    }
+    Some(relation(a, p, b, q))
+}
+
 #[test]
-fn relations_of_edges(rt: HostRuntime) {
-    for ((a, p), (b, q), setup, hold) in [
+fn relations_of_two_clocks(rt: HostRuntime) {
+    for (launch, capture, setup, hold) in [
         (A_RISE, A_RISE, 10_000_000, 0),
         (A_RISE, A_FALL, 5_000_000, -5_000_000),
         (A_RISE, B_RISE, 5_000_000, 0),
@@ -33,7 +45,19 @@ fn relations_of_edges(rt: HostRuntime) {
         (B_FALL, A_FALL, 2_500_000, -2_500_000),
         (B_FALL, B_RISE, 7_500_000, -7_500_000),
         (B_FALL, B_FALL, 15_000_000, 0),
-        // small periods
+    ] {
+        let wanted = Some(Relation { setup, hold });
+        assert_eq!(rt;
+            relation_of(launch, capture),
+            wanted,
+            "{launch:?} to {capture:?}"
+        );
+    }
+}
+
+#[test]
+fn relations_of_small_and_of_great_periods(rt: HostRuntime) {
+    for (launch, capture, setup, hold) in [
         ((0, 4), (0, 6), 2, 0),
         ((2, 4), (1, 6), 1, -1),
         ((0, 2), (1, 4), 1, -1),
@@ -56,13 +80,11 @@ fn relations_of_edges(rt: HostRuntime) {
             -249_999_999_999,
         ),
     ] {
-        assert!(rt; 0 <= a && a <= LAST_TIME && 1 <= p && p <= LAST_PERIOD);
-        assert!(rt; 0 <= b && b <= LAST_TIME && 1 <= q && q <= LAST_PERIOD);
-        let found = relation(a, p, b, q);
+        let wanted = Some(Relation { setup, hold });
         assert_eq!(rt;
-            found,
-            Relation { setup, hold },
-            "edge {a} of {p} to edge {b} of {q}"
+            relation_of(launch, capture),
+            wanted,
+            "{launch:?} to {capture:?}"
         );
     }
 }

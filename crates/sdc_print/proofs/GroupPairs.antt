@@ -1,12 +1,12 @@
 -- The pairs that the groups of a mode's lines make exclusive are the mode's pairs, in order.
 use Rattle.std.proofs.Common.{◌≡◌, ◌<◌, ◌≤◌, ◌+◌, ◌&&◌, ◌||◌, ℕ, zero, suc, Bool, true, false, List, [], ◌∷◌, ◌++◌, length, map, drop, nat_eq, refl, sym, ◌∙◌, ap, subst, inl, inr, arith}
-use Rattle.std.proofs.lemmas.Bool.Decides.{nat_tests}
+use Rattle.std.proofs.lemmas.Bool.{cases_eq, eq-eqb, ne_eqb}
 use Rattle.sdc_model.specs.declared.clocks.Clock.{Clock}
 use Rattle.sdc_model.specs.declared.clocks.Pair.{Pair}
 use Rattle.sdc_model.specs.ClockGroups.{Groups, exclusive_pairs, is_among, is_parted, pairs_from, pairs_with}
 use Rattle.sdc_model.specs.PrintedFile.{ArePairs, IsBehind, exclusive_to}
 use Rattle.sdc_print.specs.Runs.{run_length}
-use Rattle.sdc_print.proofs.RunFacts.{AreFrom, TakesRun, all_from_zero, are_behind, exclusive_other, exclusive_same, later_without_run, none_from, run_none, run_other, run_same, same_or_not, takes_run}
+use Rattle.sdc_print.proofs.RunFacts.{AreFrom, TakesRun, all_from_zero, are_behind, exclusive_other, exclusive_same, later_without_run, none_from, run_none, run_other, run_same, takes_run}
 
 -- the groups of a line, and of the lines from a place on
 abbrev pub groups_of : ℕ → List ℕ → List Groups
@@ -25,23 +25,17 @@ AreWithin low count (place ∷ places) = (low < place) × (place < count) × Are
 pub exclusive_within : (count place : ℕ) (pairs : List Pair) → ArePairs count pairs → AreWithin place count (exclusive_to place pairs)
 exclusive_within count place [] o = tt
 exclusive_within count place (pair ∷ pairs) o =
-    elim (same_or_not pair.first place) [
+    elim (cases_eq pair.first place) [
       | inl e ↦
           let within : AreWithin place count (pair.second ∷ exclusive_to place pairs) = (omega (arith, e, o.0), o.1, exclusive_within count place pairs o.3) in
           subst (AreWithin place count) (sym (exclusive_same place pair pairs e)) within
       | inr n ↦ subst (AreWithin place count) (sym (exclusive_other place pair pairs n)) (exclusive_within count place pairs o.3)
     ]
 
-differ : (m n : ℕ) → (m ≡ n → ⊥) → nat_eq m n ≡ false
-differ m n h = grind (arith, nat_tests)
-
-same : (m n : ℕ) → m ≡ n → nat_eq m n ≡ true
-same m n h = grind (arith, nat_tests)
-
 none_below : (i low count : ℕ) (places : List ℕ) → i ≤ low → AreWithin low count places → is_among i places ≡ false
 none_below i low count [] h w = refl
 none_below i low count (place ∷ places) h w =
-    let n : nat_eq place i ≡ false = differ place i (λ e. omega (arith, e, w.0)) in
+    let n : nat_eq place i ≡ false = ne_eqb place i (λ e. omega (arith, e, w.0)) in
     rw n (none_below i low count places h w.2)
 
 -- ---- which clocks the groups part
@@ -61,11 +55,11 @@ parted_line place count i j [] rest h w = ap (λ (b : Bool). b || is_parted rest
 parted_line place count i j (other ∷ others) rest h w =
     let a = is_among j (other ∷ others) in
     let other_way : ((nat_eq place j || false) && is_among i (other ∷ others)) ≡ false =
-    elim (same_or_not place j) [
+    elim (cases_eq place j) [
       | inl e ↦
           let none : is_among i (other ∷ others) ≡ false = none_below i place count (other ∷ others) (omega (arith, e, h)) w in
           ap (λ (b : Bool). (nat_eq place j || false) && b) none ∙ and_false (nat_eq place j || false)
-      | inr n ↦ ap (λ (b : Bool). (b || false) && is_among i (other ∷ others)) (differ place j n)
+      | inr n ↦ ap (λ (b : Bool). (b || false) && is_among i (other ∷ others)) (ne_eqb place j n)
     ] in
     ap (λ (b : Bool). (((nat_eq place i || false) && a) || b) || is_parted rest i j) other_way
     ∙ (ap (λ (b : Bool). ((b && a) || false) || is_parted rest i j) (or_false (nat_eq place i))
@@ -75,7 +69,7 @@ none_before : (pairs : List Pair) (count place i j : ℕ) (clocks : List Clock) 
 none_before pairs count place i j [] h k o = refl
 none_before pairs count place i j (clock ∷ clocks) h k o =
     parted_line place count i j (exclusive_to place pairs) (groups_from pairs (suc place) clocks) h (exclusive_within count place pairs o)
-    ∙ (ap (λ (b : Bool). (b && is_among j (exclusive_to place pairs)) || is_parted (groups_from pairs (suc place) clocks) i j) (differ place i (λ e. omega (arith, e, k)))
+    ∙ (ap (λ (b : Bool). (b && is_among j (exclusive_to place pairs)) || is_parted (groups_from pairs (suc place) clocks) i j) (ne_eqb place i (λ e. omega (arith, e, k)))
     ∙ none_before pairs count (suc place) i j clocks h (omega arith) o)
 
 pub parted_is : (pairs : List Pair) (count place i j : ℕ) (clocks : List Clock) → i < j → place ≤ i → i < place + length clocks → ArePairs count pairs
@@ -84,13 +78,13 @@ parted_is pairs count place i j [] h k l o = absurd (omega arith)
 parted_is pairs count place i j (clock ∷ clocks) h k l o =
     let rest = groups_from pairs (suc place) clocks in
     parted_line place count i j (exclusive_to place pairs) rest h (exclusive_within count place pairs o)
-    ∙ elim (same_or_not place i) [
+    ∙ elim (cases_eq place i) [
       | inl e ↦
-          ap (λ (b : Bool). (b && is_among j (exclusive_to place pairs)) || is_parted rest i j) (same place i e)
+          ap (λ (b : Bool). (b && is_among j (exclusive_to place pairs)) || is_parted rest i j) (eq-eqb place i e)
           ∙ (ap (λ (b : Bool). is_among j (exclusive_to place pairs) || b) (none_before pairs count (suc place) i j clocks h (omega (arith, e)) o)
           ∙ (or_false (is_among j (exclusive_to place pairs)) ∙ ap (λ (n : ℕ). is_among j (exclusive_to n pairs)) e))
       | inr n ↦
-          ap (λ (b : Bool). (b && is_among j (exclusive_to place pairs)) || is_parted rest i j) (differ place i n)
+          ap (λ (b : Bool). (b && is_among j (exclusive_to place pairs)) || is_parted rest i j) (ne_eqb place i n)
           ∙ parted_is pairs count (suc place) i j clocks h (omega (arith, n)) (omega arith) o
     ]
 
@@ -107,7 +101,7 @@ Rises low end (place ∷ places) = (low ≤ place) × (place < end) × Rises (su
 rises_above : (j low end : ℕ) (places : List ℕ) → j < low → Rises low end places → is_among j places ≡ false
 rises_above j low end [] h r = refl
 rises_above j low end (place ∷ places) h r =
-    let n : nat_eq place j ≡ false = differ place j (λ e. omega (arith, e, r.0)) in
+    let n : nat_eq place j ≡ false = ne_eqb place j (λ e. omega (arith, e, r.0)) in
     rw n (rises_above j (suc place) end places (omega (arith, r.0)) r.2)
 
 -- what a clock's row of pairs is, where it is parted from just these later ones
@@ -119,11 +113,11 @@ row_is groups i j (suc more) end [] e p r =
     let none : is_parted groups i j ≡ false = p j (omega arith) in
     rw none (row_is groups i (j + 1) more end [] (omega arith) (λ b h. p b (omega arith)) tt)
 row_is groups i j (suc more) end (place ∷ places) e p r =
-    elim (same_or_not place j) [
+    elim (cases_eq place j) [
       | inl s ↦
-          let here : is_parted groups i j ≡ true = p j (omega arith) ∙ ap (λ (b : Bool). b || is_among j places) (same place j s) in
+          let here : is_parted groups i j ≡ true = p j (omega arith) ∙ ap (λ (b : Bool). b || is_among j places) (eq-eqb place j s) in
           let later : (b : ℕ) → j + 1 ≤ b → is_parted groups i b ≡ is_among b places =
-          λ b h. p b (omega arith) ∙ ap (λ (t : Bool). t || is_among b places) (differ place b (λ f. omega (arith, f, s, h))) in
+          λ b h. p b (omega arith) ∙ ap (λ (t : Bool). t || is_among b places) (ne_eqb place b (λ f. omega (arith, f, s, h))) in
           let others = row_is groups i (j + 1) more end places (omega arith) later (subst (λ (n : ℕ). Rises n end places) (omega (arith, s)) r.2) in
           rw here (ap (λ (n : ℕ). let q : List Pair = record { first = i; second = n } ∷ pairs_with groups i (j + 1) more in q) (sym s)
           ∙ ap (λ (ps : List Pair). let q : List Pair = record { first = i; second = place } ∷ ps in q) others)
@@ -150,7 +144,7 @@ begins_above count place (pair ∷ pairs) o = λ e. omega (arith, e, o.0)
 others_rise : (count place low : ℕ) (pairs : List Pair) → ArePairs count pairs → AreFrom place pairs → BeginsAt place low pairs → Rises low count (exclusive_to place pairs)
 others_rise count place low [] o f b = tt
 others_rise count place low (pair ∷ pairs) o f b =
-    elim (same_or_not pair.first place) [
+    elim (cases_eq pair.first place) [
       | inl e ↦
           let rises : Rises low count (pair.second ∷ exclusive_to place pairs) =
           (b e, o.1, others_rise count place (suc pair.second) pairs o.3 f.1 (begins_behind place pair pairs e o.2)) in
@@ -162,7 +156,7 @@ others_rise count place low (pair ∷ pairs) o f b =
 run_and_rest : (count place : ℕ) (pairs : List Pair) → ArePairs count pairs → AreFrom place pairs → pairs ≡ pairs_of place (exclusive_to place pairs) ++ drop (run_length place pairs) pairs
 run_and_rest count place [] o f = ap (λ (k : ℕ). let q : List Pair = drop k [] in q) (sym (run_none place))
 run_and_rest count place (pair ∷ pairs) o f =
-    elim (same_or_not pair.first place) [
+    elim (cases_eq pair.first place) [
       | inl e ↦
           let first : Pair = record { first = place; second = pair.second } in
           let is : pair ≡ first = ap (λ (n : ℕ). let q : Pair = record { first = n; second = pair.second } in q) e in

@@ -6,7 +6,8 @@ use Rattle.sdc_model.specs.declared.clocks.Wave.{Wave}
 use Rattle.sdc_model.specs.ClockFile.{is_name, is_taken, virtual_clock}
 use Rattle.sdc_model.specs.PrintedFile.{ArePrintableClocks, IsPrintableClock, IsPrintableWave}
 
-one_more : (before clocks : List Clock) (clock : Clock) → ArePrintableClocks before clocks → IsPrintableClock clock → is_taken clock.name (before ++ clocks) ≡ false → ArePrintableClocks before (clocks ++ clock ∷ [])
+-- a printable clock of a new name behind printable clocks keeps them printable
+pub one_more : (before clocks : List Clock) (clock : Clock) → ArePrintableClocks before clocks → IsPrintableClock clock → is_taken clock.name (before ++ clocks) ≡ false → ArePrintableClocks before (clocks ++ clock ∷ [])
 one_more before [] clock a p t = (p, ap (is_taken clock.name) (sym (append-nil before)) ∙ t, tt)
 one_more before (first ∷ clocks) clock a p t = (
   a.0,

@@ -1,5 +1,6 @@
 -- Runs of pairs with one first place.
-use Rattle.std.proofs.Common.{◌≡◌, ◌<◌, ◌≤◌, ◌⊎◌, inl, inr, ℕ, Bool, List, [], ◌∷◌, suc, false, true, nat_eq, length, drop, take, get_or, arith, refl, sym, ap, ◌∙◌, subst}
+use Rattle.std.proofs.Common.{◌≡◌, ◌<◌, ◌≤◌, inl, inr, ℕ, Bool, List, [], ◌∷◌, suc, false, true, nat_eq, length, drop, take, get_or, arith, refl, sym, ap, ◌∙◌, subst}
+use Rattle.std.proofs.lemmas.Bool.{cases_eq}
 use Rattle.std.proofs.lemmas.Bool.Decides.{nat_tests}
 use Rattle.std.proofs.lemmas.List.{drop_all}
 use Rattle.std.proofs.Math.Seq.{drop-cons}
@@ -10,11 +11,6 @@ use Rattle.sdc_print.specs.Runs.{run_length, seconds}
 pub by_bool : (P : Bool → Type 0) (b : Bool) → (b ≡ true → P true) → (b ≡ false → P false) → P b
 by_bool P true t f = t refl
 by_bool P false t f = f refl
-
-pub same_or_not : (m n : ℕ) → (m ≡ n) ⊎ (m ≡ n → ⊥)
-same_or_not m n =
-    by_bool (λ b. nat_eq m n ≡ b → (m ≡ n) ⊎ (m ≡ n → ⊥)) (nat_eq m n)
-    (λ _ t. inl (grind (arith, nat_tests))) (λ _ t. inr (λ e. grind (arith, nat_tests))) refl
 
 pub run_same : (place : ℕ) (pair : Pair) (pairs : List Pair) → pair.first ≡ place → run_length place (pair ∷ pairs) ≡ suc (run_length place pairs)
 unfolding run_length
@@ -78,7 +74,7 @@ pub takes_run : (count place : ℕ) (pairs : List Pair) → ArePairs count pairs
 takes_run count place [] o f =
     subst (λ k. TakesRun count place k []) (sym (run_none place)) (record { group = refl; order = tt; above = tt })
 takes_run count place (pair ∷ pairs) o f =
-    elim (same_or_not pair.first place) [
+    elim (cases_eq pair.first place) [
       | inl e ↦
           let t = takes_run count place pairs o.3 f.1 in
           subst (λ k. TakesRun count place k (pair ∷ pairs)) (sym (run_same place pair pairs e))
@@ -94,7 +90,7 @@ takes_run count place (pair ∷ pairs) o f =
 pub later_without_run : (place later : ℕ) (pairs : List Pair) → place < later → exclusive_to later pairs ≡ exclusive_to later (drop (run_length place pairs) pairs)
 later_without_run place later [] h = ap (λ k. exclusive_to later (drop k [])) (sym (run_none place))
 later_without_run place later (pair ∷ pairs) h =
-    elim (same_or_not pair.first place) [
+    elim (cases_eq pair.first place) [
       | inl e ↦
           let n : pair.first ≡ later → ⊥ = λ f. omega (arith, e, f, h) in
           exclusive_other later pair pairs n ∙ later_without_run place later pairs h
