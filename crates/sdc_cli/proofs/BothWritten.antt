@@ -4,7 +4,8 @@ use Rattle.sdc_base.specs.Channels.{Written, Creates, WritesAll, appended}
 use Rattle.sdc_base.specs.declared.outside.Channel.TheVariants.{Report, Merged}
 use Rattle.sdc_base.specs.declared.outside.Refusal.{Refusal}
 use Rattle.sdc_model.specs.declared.command_lines.Output.{Output}
-use Rattle.sdc_model.specs.Answers.{OnTold, WritesBoth}
+use Rattle.sdc_model.specs.Answers.{OnTold}
+use Rattle.sdc_cli.specs.Steps.{WritesBoth}
 
 told_written : (name : List ℕ) (output : Output) (answer : Result Unit Refusal) (before made merged after : Written)
     → made ≡ record before { merged = []; name = name } → merged ≡ appended Merged output.merged made

@@ -10,7 +10,8 @@ use Rattle.sdc_model.specs.declared.kinds.Kind.{Kind}
 use Rattle.sdc_model.specs.declared.modes.Mode.{Mode}
 use Rattle.sdc_model.specs.ClockFile.{SaysMode}
 use Rattle.sdc_model.specs.ModeFiles.{SayModes, SaysFile, with_first}
-use Rattle.sdc_model.specs.Answers.{OnTold, ReadsMode, ReadsModes, FailsReading, files_of, first_place, most_clocks}
+use Rattle.sdc_model.specs.Answers.{OnTold, FailsReading, files_of, first_place, most_clocks}
+use Rattle.sdc_cli.specs.Steps.{ReadsMode, ReadsModes}
 
 -- a fault of what the bytes of a file say is a fault of the file
 pub told_fault : (most count place line : ℕ) (kind : Kind) (name bytes : List ℕ) (before after : Option Reading)

@@ -25,7 +25,7 @@ use Rattle.sdc_model.specs.PrintedFile.{ArePrintableClocks, IsPrintableClock, Is
 use Rattle.sdc_model.specs.Relation.{IsEdgeOf}
 use Rattle.sdc_model.specs.ClockGroups.{group_of}
 use Rattle.sdc_model.specs.Words.{only_text, is_text}
-use Rattle.sdc_model.specs.Waveform.{time_within, time_from, nanoseconds, period_of, plain_wave, moved_down, wave_within, wave_of, waveform_of}
+use Rattle.sdc_model.specs.Waveform.{limited_time, time_from, nanoseconds, period_of, plain_wave, moved_down, wave_within, wave_of, waveform_of}
 
 -- ---- answers by steps
 
@@ -58,12 +58,12 @@ IsWithin least time = (least ≤ time) × (time ≤ 10 ^ 12)
 both_tests : (least time most : ℕ) → (nat_le least time && nat_le time most) ≡ true → (least ≤ time) × (time ≤ most)
 both_tests least time most h = grind (arith, nat_tests)
 
-time_within-holds : (least : ℕ) (time : ℤ) → IfSome (time_within least time) (IsWithin least)
-time_within-holds least (pos time) = tested_holds (IsWithin least) (nat_le least time && nat_le time (10 ^ 12)) (Some time) (both_tests least time (10 ^ 12))
-time_within-holds least (negsuc time) = tt
+limited_time-holds : (least : ℕ) (time : ℤ) → IfSome (limited_time least time) (IsWithin least)
+limited_time-holds least (pos time) = tested_holds (IsWithin least) (nat_le least time && nat_le time (10 ^ 12)) (Some time) (both_tests least time (10 ^ 12))
+limited_time-holds least (negsuc time) = tt
 
 time_from-holds : (least : ℕ) (text : List ℕ) → IfSome (time_from least text) (IsWithin least)
-time_from-holds least text = each_holds (IsWithin least) (time_within least) (nanoseconds (read_number text)) (time_within-holds least)
+time_from-holds least text = each_holds (IsWithin least) (limited_time least) (nanoseconds (read_number text)) (limited_time-holds least)
 
 plain_is_printable : (period : ℕ) → IsWithin 2 period → IsPrintableWave (plain_wave period)
 plain_is_printable period p = record {

@@ -9,3 +9,4 @@ pub mod Places
 pub mod Refusals
 pub mod ReportTree
 pub mod Waves
+pub mod Steps

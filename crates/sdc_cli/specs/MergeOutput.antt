@@ -23,15 +23,15 @@ abbrev pub merged_text : Merged → List ℕ
 merged_text merged = printed_file empty_design merged.mode
 
 -- a text, read as a clock file, says a mode, apart from lines
-abbrev pub ReadsBack : Mode → List ℕ → Type 0
-ReadsBack mode text = (said : Mode) × SaysMode text (Ok said) × (without_lines said ≡ without_lines mode)
+abbrev pub SaysAgain : Mode → List ℕ → Type 0
+SaysAgain mode text = (said : Mode) × SaysMode text (Ok said) × (without_lines said ≡ without_lines mode)
 
 pub record IsMergeOutput (files : List (List ℕ)) (modes : List Mode) (output : Output) : Type 0 where
   pub merged : Merged
   pub is_merge : IsMergeOf modes merged
   pub short : length (merged_text merged) ≤ MOST_BYTES
   pub text : output.merged ≡ merged_text merged
-  pub reads_back : ReadsBack merged.mode output.merged
+  pub reads_back : SaysAgain merged.mode output.merged
   pub report : output.report ≡ report_bytes (Merge (report_of files modes merged.clocks))
 
 pub record IsMergeTooLarge (modes : List Mode) (bytes : ℕ) : Type 0 where

@@ -13,15 +13,15 @@ abbrev pub IsNumbered : Mode → List ℕ → Type 0
 IsNumbered mode numbers = length numbers ≡ length mode.clocks
 
 -- a clock of a file with this number, where that is the merged clock's
-abbrev pub clock_with : ℕ → List ℕ → Clock → ℕ → List ModeClock
-clock_with merged file clock number = if number == merged then record { file = file; name = clock.name } ∷ [] else []
+abbrev pub row_if_numbered : ℕ → List ℕ → Clock → ℕ → List ModeClock
+row_if_numbered merged file clock number = if number == merged then record { file = file; name = clock.name } ∷ [] else []
 
 -- the clocks of one file that are a merged clock
 abbrev pub file_clocks : ℕ → List ℕ → List Clock → List ℕ → List ModeClock
 file_clocks merged file [] numbers = []
 file_clocks merged file (clock ∷ clocks) [] = []
 file_clocks merged file (clock ∷ clocks) (number ∷ numbers) =
-    clock_with merged file clock number ++ file_clocks merged file clocks numbers
+    row_if_numbered merged file clock number ++ file_clocks merged file clocks numbers
 
 -- those of all files
 abbrev pub mode_clocks : ℕ → List (List ℕ) → List Mode → List (List ℕ) → List ModeClock

@@ -11,9 +11,10 @@ use Rattle.sdc_model.specs.declared.command_lines.CommandLine.TheVariants.{Edges
 use Rattle.sdc_model.specs.declared.command_lines.Output.{Output}
 use Rattle.sdc_model.specs.declared.merges.Merged.{Merged}
 use Rattle.sdc_model.specs.declared.modes.Mode.{Mode}
-use Rattle.sdc_model.specs.Answers.{LineModes, ReadsModes, StopsReading}
+use Rattle.sdc_model.specs.Answers.{LineModes, TooLargeFits}
+use Rattle.sdc_cli.specs.Steps.{ReadsModes, StopsReading}
 use Rattle.sdc_model.specs.EdgesText.{AreReports}
-use Rattle.sdc_cli.specs.MergeOutput.{IsMergeOutput, IsMergeTooLarge, ReadsBack, merged_text}
+use Rattle.sdc_cli.specs.MergeOutput.{IsMergeOutput, IsMergeTooLarge, SaysAgain, merged_text}
 
 -- what a run writes
 abbrev pub IsOutputOf : CommandLine → List Mode → Output → Type 0
@@ -28,7 +29,7 @@ IsTooLargeOf (Merge out files) modes bytes = IsMergeTooLarge modes bytes
 -- what making the merged text answers
 abbrev pub GivesText : Merged → Result (List ℕ) Status → Type 0
 GivesText merged (Ok text) =
-    (length (merged_text merged) ≤ MOST_BYTES) × (text ≡ merged_text merged) × ReadsBack merged.mode text
+    (length (merged_text merged) ≤ MOST_BYTES) × (text ≡ merged_text merged) × SaysAgain merged.mode text
 GivesText merged (Err (status.TooLarge bytes)) = (length (merged_text merged) ≡ bytes) × (MOST_BYTES < bytes)
 GivesText merged (Err status.NoMemory) = Unit {0}
 GivesText merged (Err _) = ⊥
@@ -57,5 +58,5 @@ ComputesLine line (Err answer) before after = ReadsModes line (Err answer) befor
 
 -- computing stops for one of these
 abbrev pub StopsComputing : CommandLine → ℕ → ℕ → Status → Type 0
-StopsComputing line before after (status.TooLarge bytes) = Unit {0}
+StopsComputing line before after (status.TooLarge bytes) = TooLargeFits (Some line) (status.TooLarge bytes)
 StopsComputing line before after answer = StopsReading line before after answer

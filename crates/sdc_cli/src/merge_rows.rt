@@ -2,7 +2,7 @@
 
 ghost use Rattle.std.specs.Prelude.{◌≡◌, ◌++◌, ◌+◌, ◌<◌, ◌≤◌, ◌^◌, ℕ, List, length, IfOk, OnOk};
 ghost use Rattle.std.specs.List.{AllZip};
-ghost use Rattle.sdc_cli.specs.MergeRows.{IsNumbered, clock_with, file_clocks, mode_clocks, clock_rows, report_of};
+ghost use Rattle.sdc_cli.specs.MergeRows.{IsNumbered, row_if_numbered, file_clocks, mode_clocks, clock_rows, report_of};
 
 use crate::reports::{ClockRow, MergeReport, ModeClock};
 use sdc_base::{Duplicate, List, NoMemory, Text};
@@ -104,7 +104,7 @@ fn push_clock(
     clock: &Clock,
     number: u32,
 ) -> Result<(), NoMemory>
-    ensures { OnOk result (out.new ≡ out.old ++ clock_with merged file.now clock.now number) }
+    ensures { OnOk result (out.new ≡ out.old ++ row_if_numbered merged file.now clock.now number) }
 {
     if number as usize == merged {
         let name = clock.name.copy(alloc)?;

@@ -1,7 +1,8 @@
 //! The mode files of a command line, read one after the other.
 
 ghost use Rattle.std.specs.Prelude.{◌≡◌, ◌≤◌, ◌<◌, ◌^◌, ◌+◌, length, [], IfOk, IfErr};
-ghost use Rattle.sdc_model.specs.Answers.{files_of, first_place, most_clocks, OnTold, ReadsMode, ReadsModes, StopsAt, StopsReading};
+ghost use Rattle.sdc_model.specs.Answers.{files_of, first_place, most_clocks, OnTold};
+ghost use Rattle.sdc_cli.specs.Steps.{ReadsMode, ReadsModes, StopsAt, StopsReading};
 ghost use Rattle.sdc_model.specs.PlainViews.{clocks_in};
 ghost use Rattle.sdc_model.specs.PrintedFile.{ArePrintableClocks, ModesArePrintable};
 

@@ -2,7 +2,8 @@
 
 ghost use Rattle.std.specs.Prelude.{◌≡◌, ◌≤◌, length, IfErr, Some, Err};
 ghost use Rattle.sdc_model.specs.CommandLine.{command_line, words_of};
-ghost use Rattle.sdc_model.specs.Answers.{OnTold, OnModes, IsLineFault, UsageFits, CauseFits, ReadFaultFits, WriteFaultFits, LeavesReading, LeavesWritten, made_by, made_file, files_of, Writes, EndsWriting, WritesBoth};
+ghost use Rattle.sdc_model.specs.Answers.{OnTold, OnModes, IsLineFault, UsageFits, CauseFits, TooLargeFits, ReadFaultFits, WriteFaultFits, LeavesReading, LeavesWritten, made_by, made_file, files_of};
+ghost use Rattle.sdc_cli.specs.Steps.{WritesOutput, EndsWriting, WritesBoth};
 ghost use Rattle.sdc_base.specs.Counting.{Rose};
 ghost use Rattle.sdc_cli.specs.Outputs.{IsOutputOf, IsTooLargeOf, ComputesLine, StopsComputing};
 
@@ -34,6 +35,9 @@ pub fn run<I: Inputs, O: Outputs>(
         CauseFits (λ output. OnModes (λ l modes. IsOutputOf l modes output) (I.told inputs.old) line)
         (IsLineFault (I.told inputs.old) line)
         (λ bytes. OnModes (λ l modes. IsTooLargeOf l modes bytes) (I.told inputs.old) line) result }
+
+    // TooLarge only of a merge, and of more bytes than a file may have.
+    ensures too_large { TooLargeFits (command_line (words_of words.now)) result }
 
     // ReadFault and WriteFault only where a count rose.
     ensures read_fault { ReadFaultFits (command_line (words_of words.now))
@@ -67,6 +71,7 @@ fn run_line<I: Inputs, O: Outputs>(
     ensures cause { CauseFits (λ output. OnModes (λ l modes. IsOutputOf l modes output) (I.told inputs.old) (Some line.now))
         (IsLineFault (I.told inputs.old) (Some line.now))
         (λ bytes. OnModes (λ l modes. IsTooLargeOf l modes bytes) (I.told inputs.old) (Some line.now)) result }
+    ensures too_large { TooLargeFits (Some line.now) result }
     ensures read_fault { ReadFaultFits (Some line.now)
         (I.faults inputs.old) (I.faults inputs.new) result }
     ensures write_fault { WriteFaultFits (O.faults outputs.old) (O.faults outputs.new) result }
@@ -99,7 +104,7 @@ fn line_output<I: Inputs>(
 
 /// Writes the output of a command line, the merged file before the report.
 fn write_output<O: Outputs>(line: &CommandLine, output: &Output, outputs: &mut O) -> Status
-    ensures writes { OnTold (Writes (made_file line.now) output.now result)
+    ensures writes { OnTold (WritesOutput (made_file line.now) output.now result)
         (O.told outputs.old) (O.told outputs.new) }
     ensures write_fault { WriteFaultFits (O.faults outputs.old) (O.faults outputs.new) result }
     ensures ends { EndsWriting result }

@@ -4,7 +4,7 @@
 ghost use Rattle.std.specs.Prelude.{◌≡◌, ◌≤◌, ◌<◌, ◌+◌, ◌^◌, IfSome};
 ghost use Rattle.std.specs.Option.{option_copied};
 ghost use Rattle.sdc_model.specs.ClockFile.{wave_given};
-ghost use Rattle.sdc_model.specs.Waveform.{plain_wave, period_of, time_from, time_within, wave_within, waveform_of, moved_down};
+ghost use Rattle.sdc_model.specs.Waveform.{plain_wave, period_of, time_from, limited_time, wave_within, waveform_of, moved_down};
 ghost use Rattle.sdc_cli.specs.Waves.{IsPeriod, HasEdges};
 
 use crate::items::first_item;
@@ -48,12 +48,12 @@ fn time_from(least: u64, text: &str) -> Option<u64>
     ensures most { IfSome result (λ time. time ≤ 10 ^ 12) }
 {
     let time = Fixed::read(text).ok()?.to_time(NANOSECOND).ok()?;
-    time_within(least, time)
+    limited_time(least, time)
 }
 
 /// A time, where it is from a least one to the longest.
-fn time_within(least: u64, time: i64) -> Option<u64>
-    ensures time { result ≡ time_within least time }
+fn limited_time(least: u64, time: i64) -> Option<u64>
+    ensures time { result ≡ limited_time least time }
     ensures least { IfSome result (λ time. least ≤ time) }
     ensures most { IfSome result (λ time. time ≤ 10 ^ 12) }
 {

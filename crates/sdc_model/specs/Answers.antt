@@ -1,9 +1,9 @@
 -- What an answer of a run says of its words, of the files that were read and of what was written. This project's own.
 -- Want of memory may stand anywhere; every other answer has its cause. Where an object tells nothing, its counts alone speak.
-use Rattle.std.specs.Prelude.{◌≡◌, ◌+◌, ◌≤◌, ◌⊎◌, ◌++◌, ℕ, suc, List, [], ◌∷◌, length, Option, Some, None, Result, Ok, Err}
+use Rattle.std.specs.Prelude.{◌≡◌, ◌+◌, ◌≤◌, ◌<◌, ◌⊎◌, ◌++◌, ℕ, suc, List, [], ◌∷◌, length, Option, Some, None, Result, Ok, Err}
 use Rattle.sdc_base.specs.declared.outside.NamedBytes.{NamedBytes}
 use Rattle.sdc_base.specs.declared.outside.Channel.TheVariants.{Report}
-use Rattle.sdc_base.specs.declared.outside.Refusal.{Refusal}
+use Rattle.sdc_base.specs.declared.whole.TheConstants.{MOST_BYTES}
 use Rattle.sdc_base.specs.Counting.{Rose}
 use Rattle.sdc_base.specs.Files.{Reading, bytes_of}
 use Rattle.sdc_base.specs.Channels.{Written, appended, AppendsFront}
@@ -16,7 +16,7 @@ use Rattle.sdc_model.specs.declared.kinds.Fault.{Fault}
 use Rattle.sdc_model.specs.declared.modes.Mode.{Mode}
 use Rattle.sdc_model.specs.ModeFiles.{SayModes, SaysFile}
 
--- the mode files of a command line: their names, the place of the first of them among the words, and the most clocks
+-- the mode files of a command line: their names, and the place of the first of them among the words
 abbrev pub files_of : CommandLine → List (List ℕ)
 files_of (Edges files) = files
 files_of (Merge out modes) = modes
@@ -25,6 +25,11 @@ abbrev pub first_place : CommandLine → ℕ
 first_place (Edges files) = 1
 first_place (Merge out modes) = 5
 
+-- the place of one of them
+abbrev pub IsPlaceOf : CommandLine → ℕ → Type 0
+IsPlaceOf line place = (first_place line ≤ place) × (place + 1 ≤ first_place line + length (files_of line))
+
+-- the most clocks of all of them together
 abbrev pub most_clocks : CommandLine → ℕ
 most_clocks (Edges files) = 1024
 most_clocks (Merge out modes) = 16384
@@ -44,10 +49,10 @@ OnModes Fact told None = ⊥
 OnModes Fact None (Some line) = Unit {0}
 OnModes Fact (Some reading) (Some line) = (modes : List Mode) × LineModes line reading.files (Ok modes) × Fact line modes
 
--- the first fault of the files of a command line
+-- the first fault of the files of a command line: where they are not told, still one of a file of it
 abbrev pub IsLineFault : Option Reading → Option CommandLine → Fault → Type 0
 IsLineFault told None fault = ⊥
-IsLineFault None (Some line) fault = Unit {0}
+IsLineFault None (Some line) fault = IsPlaceOf line fault.file
 IsLineFault (Some reading) (Some line) fault = LineModes line reading.files (Err fault)
 
 -- Usage exactly where the words are no command line
@@ -66,11 +71,16 @@ CauseFits IsOutput IsFault IsTooLarge (status.Source fault) = IsFault fault
 CauseFits IsOutput IsFault IsTooLarge (status.TooLarge bytes) = IsTooLarge bytes
 CauseFits IsOutput IsFault IsTooLarge _ = Unit {0}
 
+-- TooLarge only where a file is made, and only with more bytes than one may have
+abbrev pub TooLargeFits : Option CommandLine → Status → Type 0
+TooLargeFits (Some (Merge out modes)) (status.TooLarge bytes) = MOST_BYTES < bytes
+TooLargeFits _ (status.TooLarge bytes) = ⊥
+TooLargeFits _ _ = Unit {0}
+
 -- ReadFault only where the count of the inputs rose, with the place of a file
 abbrev pub ReadFaultFits : Option CommandLine → ℕ → ℕ → Status → Type 0
 ReadFaultFits None before after (status.ReadFault place) = ⊥
-ReadFaultFits (Some line) before after (status.ReadFault place) =
-    Rose before after × (first_place line ≤ place) × (place + 1 ≤ first_place line + length (files_of line))
+ReadFaultFits (Some line) before after (status.ReadFault place) = Rose before after × IsPlaceOf line place
 ReadFaultFits line before after _ = Unit {0}
 
 -- WriteFault only where the count of the outputs rose
@@ -87,47 +97,12 @@ FailsReading most files place count begun (name ∷ names) failed after =
     ⊎ ((mode : Mode) × SaysFile most count (bytes_of files name) (Ok mode)
     × FailsReading most files (suc place) (count + length mode.clocks) (Some name) names failed after)
 
--- What reading the file of a name at a place of the words answers, behind so many clocks: its mode, or a fault of it.
--- The files stay, and the file is begun, or else, where its read failed, what was begun before.
-abbrev pub ReadsMode : ℕ → ℕ → ℕ → List ℕ → Result Mode Status → Reading → Reading → Type 0
-ReadsMode most count place name (Ok mode) before after =
-    (after.files ≡ before.files) × (after.begun ≡ Some name) × SaysFile most count (bytes_of before.files name) (Ok mode)
-ReadsMode most count place name (Err (status.Source fault)) before after =
-    (after.files ≡ before.files) × (fault.file ≡ place) × SaysFile most count (bytes_of before.files name) (Err fault.kind)
-ReadsMode most count place name (Err (status.ReadFault failed)) before after =
-    (after.files ≡ before.files) × (failed ≡ place) × ((after.begun ≡ Some name) ⊎ (after.begun ≡ before.begun))
-ReadsMode most count place name (Err _) before after = after.files ≡ before.files
-
--- What reading the mode files of a command line answers: their modes, or the first fault. The files stay.
-abbrev pub ReadsModes : CommandLine → Result (List Mode) Status → Reading → Reading → Type 0
-ReadsModes line (Ok modes) before after = (after.files ≡ before.files) × LineModes line before.files (Ok modes)
-ReadsModes line (Err (status.Source fault)) before after = (after.files ≡ before.files) × LineModes line before.files (Err fault)
-ReadsModes line (Err (status.ReadFault place)) before after =
-    (after.files ≡ before.files)
-    × FailsReading (most_clocks line) before.files (first_place line) 0 before.begun (files_of line) place after.begun
-ReadsModes line (Err _) before after = after.files ≡ before.files
-
 -- a fact about what an object tells before and after a call, where it tells it; whether it does never changes
 abbrev pub OnTold : {Told : Type 0} → (Told → Told → Type 0) → Option Told → Option Told → Type 0
 OnTold Fact None None = Unit {0}
 OnTold Fact None (Some after) = ⊥
 OnTold Fact (Some before) None = ⊥
 OnTold Fact (Some before) (Some after) = Fact before after
-
--- a read stops a run for a fault of a source, for a fault of the inputs, whose count rose, or for want of memory
-abbrev pub StopsReading : CommandLine → ℕ → ℕ → Status → Type 0
-StopsReading line before after (status.Source fault) = Unit {0}
-StopsReading line before after (status.ReadFault place) =
-    Rose before after × (first_place line ≤ place) × (place + 1 ≤ first_place line + length (files_of line))
-StopsReading line before after status.NoMemory = Unit {0}
-StopsReading line before after _ = ⊥
-
--- the read of the file at a place of the words stops a run for one of these
-abbrev pub StopsAt : ℕ → ℕ → ℕ → Status → Type 0
-StopsAt place before after (status.Source fault) = Unit {0}
-StopsAt place before after (status.ReadFault failed) = Rose before after × (failed ≡ place)
-StopsAt place before after status.NoMemory = Unit {0}
-StopsAt place before after _ = ⊥
 
 -- what a run leaves in the inputs
 abbrev pub LeavesReading : Option CommandLine → Status → Reading → Reading → Type 0
@@ -150,25 +125,6 @@ WritesFront (Some name) output before after =
     (merged : List ℕ) × (merged_rest : List ℕ) × (report : List ℕ) × (report_rest : List ℕ)
     × (output.merged ≡ merged ++ merged_rest) × (output.report ≡ report ++ report_rest) × ((merged_rest ≡ []) ⊎ (report ≡ []))
     × (after ≡ record before { merged = merged; name = name; report = before.report ++ report })
-
--- what writing an output answers and leaves, by the file that is made
-abbrev pub Writes : Option (List ℕ) → Output → Status → Written → Written → Type 0
-Writes made output status.Done before after = WritesWhole made output before after
-Writes made output status.WriteFault before after = (after ≡ before) ⊎ WritesFront made output before after
-Writes made output status.NoMemory before after = (after ≡ before) ⊎ WritesFront made output before after
-Writes made output _ before after = ⊥
-
--- what making the merged file and writing it and the report answers and leaves
-abbrev pub WritesBoth : List ℕ → Output → Result Unit Refusal → Written → Written → Type 0
-WritesBoth name output (Ok _) before after = WritesWhole (Some name) output before after
-WritesBoth name output (Err _) before after = (after ≡ before) ⊎ WritesFront (Some name) output before after
-
--- writing ends with one of these
-abbrev pub EndsWriting : Status → Type 0
-EndsWriting status.Done = Unit {0}
-EndsWriting status.WriteFault = Unit {0}
-EndsWriting status.NoMemory = Unit {0}
-EndsWriting _ = ⊥
 
 -- what a run leaves in the outputs, by the file that it makes and its output
 abbrev pub LeavesWritten : Option (List ℕ) → (Output → Type 0) → Status → Written → Written → Type 0

@@ -1,6 +1,7 @@
 -- What a file of clocks and clock groups says, in the part of SDC 2.1 that is read here: `set sdc_version 2.1`,
 -- `set_units -time 1ns`, `create_clock -name NAME -period P` with `-waveform {R F}` where it is given, and
--- `set_clock_groups -asynchronous -group G -group G`. Anything else is out of profile, bytes that are no text too.
+-- `set_clock_groups -asynchronous -group G -group G`. Anything else is out of profile, bytes that are no text too. A braced
+-- word is its text wherever it stands.
 use Rattle.std.specs.Prelude.{◌≡◌, ◌&&◌, ◌⊎◌, ℕ, pos, Bool, false, not, List, [], ◌∷◌, ◌++◌, length, Option, Some, None, Result, Ok, Err, codes, nat_lt, if◌then◌else◌}
 use Rattle.std.specs.List.{list_all, list_any}
 use Rattle.std.specs.Option.{option_and_then}

@@ -1,6 +1,7 @@
 -- The words of a command line. This project's own.
 -- The first word names the command. Behind it `--` ends the options, once; before that a word of two or more bytes
--- that begins with `-` is no argument. `-` alone and the empty word are arguments. `merge` has one option.
+-- that begins with `-` is no argument. `-` alone and the empty word are arguments. `merge` has one option. The lines that
+-- stand are `edges`, and `merge` over the empty design (`- - -`): every other line is wrong.
 use Rattle.std.specs.Prelude.{◌==◌, ◌&&◌, ℕ, Bool, false, List, [], ◌∷◌, length, drop, map, string_bytes, String, Option, Some, None, codes, nat_eq, nat_lt, nat_le, if◌then◌else◌}
 use Rattle.std.specs.Global.{Global}
 use Rattle.std.specs.List.{starts_with}

@@ -1,4 +1,5 @@
 -- The items of a plain list: runs of bytes that are no blanks, parted by blanks (a Tcl list without quoting).
+-- It reads: of a text, the run in front and the items behind it; an empty run is no item.
 use Rattle.std.specs.Prelude.{ℕ, List, [], ◌∷◌, if◌then◌else◌}
 use Rattle.sdc_model.specs.Bytes.{is_blank}
 

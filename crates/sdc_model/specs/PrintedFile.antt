@@ -1,6 +1,7 @@
 -- The file that a design and a mode are printed as (commands of SDC 2.1): its lines, each by its words, and its bytes.
 -- The choice of the commands, their options and their order is this project's own.
 -- It reads: the header, then a line for each clock, then one for each clock with later clocks that are exclusive to it.
+-- Sources, generated clocks, settings and all other parts are not printed yet: `IsPrintable` says which modes a file gives back.
 use Rattle.std.specs.Prelude.{◌≡◌, ◌<◌, ◌^◌, ◌==◌, ◌⊎◌, ℕ, suc, ℤ, pos, unsigned_abs, ◌+ℤ◌, ◌≤ℤ◌, ◌<ℤ◌, Bool, false, IsTrue, List, [], ◌∷◌, ◌++◌, length, map, codes, Option, Some, None, slice_get, if◌then◌else◌}
 use Rattle.std.specs.List.{filter}
 use Rattle.sdc_base.specs.Time.{IsUnit, time_text_of}
@@ -150,6 +151,6 @@ pub record IsPrintable (design : Design) (mode : Mode) : Type 0 where
   pub pairs : ArePairs (length mode.clocks) mode.exclusive
   pub alone : IsOfClocks mode
 
--- a mode apart from the lines of the commands that made its clocks
+-- a mode apart from the lines of the commands that made its clocks; other parts with lines are to join here when they are printed
 abbrev pub without_lines : Mode → Mode
 without_lines mode = record mode { clocks = map without_line mode.clocks }

@@ -22,13 +22,13 @@ nanoseconds (Err _) = None
 nanoseconds (Ok number) = time_in (time_of number (pos 1000000))
 
 -- a time from a least one to the longest
-abbrev pub time_within : ℕ → ℤ → Option ℕ
-time_within least (pos time) = if nat_le least time && nat_le time longest_time then Some time else None
-time_within least (negsuc _) = None
+abbrev pub limited_time : ℕ → ℤ → Option ℕ
+limited_time least (pos time) = if nat_le least time && nat_le time longest_time then Some time else None
+limited_time least (negsuc _) = None
 
 -- the time of a text in nanoseconds, from a least one to the longest
 abbrev pub time_from : ℕ → List ℕ → Option ℕ
-time_from least text = option_and_then (time_within least) (nanoseconds (read_number text))
+time_from least text = option_and_then (limited_time least) (nanoseconds (read_number text))
 
 -- a period: at least 2 fs
 abbrev pub period_of : List ℕ → Option ℕ

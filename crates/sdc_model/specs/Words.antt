@@ -1,4 +1,5 @@
--- Words of a command that are one text each: what most arguments are.
+-- Words of a command that are one text each, which is what most arguments are (Tcl).
+-- It reads: a word of one part that is a text has this text, and any other word has none.
 use Rattle.std.specs.Prelude.{ℕ, Bool, false, List, [], ◌∷◌, Option, Some, None, nat_eq}
 use Rattle.std.specs.Cmp.Lexicographic.{pointwise}
 use Rattle.sdc_model.specs.declared.commands.Part.{Part}

@@ -18,7 +18,7 @@ use Rattle.sdc_model.specs.ClockFile.{wave_given}
 use Rattle.sdc_model.specs.Items.{Parted, all_items, items, parted}
 use Rattle.sdc_model.specs.PrintedFile.{IsPrintableWave}
 use Rattle.sdc_model.specs.PrintedLine.{spaced}
-use Rattle.sdc_model.specs.Waveform.{nanoseconds, time_from, time_in, time_within, wave_of, wave_within, waveform_of}
+use Rattle.sdc_model.specs.Waveform.{nanoseconds, time_from, time_in, limited_time, wave_of, wave_within, waveform_of}
 use Rattle.sdc_print.proofs.FileText.{AreItems, IsItem, all_pass}
 
 plain_not_blank : (b : ℕ) → is_plain b ≡ true → is_blank b ≡ false
@@ -58,8 +58,8 @@ time_back least t h k =
     let back : ReadsBack (pos t) ns = time_text_reads_back (pos t) ns (inr (inr (inr refl))) (omega arith) in
     let a : nat_le least t ≡ true = grind (arith, nat_tests) in
     let b : nat_le t (10 ^ 12) ≡ true = grind (arith, nat_tests) in
-    ap (λ (r : Result Number NumberError). option_and_then (time_within least) (nanoseconds r)) back.read
-    ∙ (ap (λ (r : Result ℤ NumberError). option_and_then (time_within least) (time_in r)) back.time ∙ rw (a, b) refl)
+    ap (λ (r : Result Number NumberError). option_and_then (limited_time least) (nanoseconds r)) back.read
+    ∙ (ap (λ (r : Result ℤ NumberError). option_and_then (limited_time least) (time_in r)) back.time ∙ rw (a, b) refl)
 
 -- a rise below the period stays where it is
 wave_kept : (p r f : ℕ) → r < p → r < f → f < r + p → wave_within p r f ≡ Some (record { period = pos p; rise = pos r; fall = pos f })

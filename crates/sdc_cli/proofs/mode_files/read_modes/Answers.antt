@@ -2,7 +2,8 @@ use Rattle.std.proofs.Common.{◌≡◌, ◌+◌, ◌≤◌, ℕ, List, ◌∷�
 use Rattle.std.proofs.lemmas.Grind.{common_steps}
 use Rattle.std.proofs.lemmas.List.{drop_all}
 use Rattle.std.proofs.lemmas.Result.{err_from_is_err_and}
-use Rattle.sdc_model.specs.Answers.{OnTold, ReadsMode, most_clocks, first_place, files_of}
+use Rattle.sdc_model.specs.Answers.{OnTold, most_clocks, first_place, files_of}
+use Rattle.sdc_cli.specs.Steps.{ReadsMode}
 use Rattle.sdc_cli.proofs.EdgeLines.{drop-item}
 use Rattle.sdc_cli.proofs.MergedModes.{printable-push, clocks_in-push}
 use Rattle.sdc_cli.proofs.ModeSteps.{ReadSoFar-more, ReadSoFar-stops, ReadSoFar-all}
