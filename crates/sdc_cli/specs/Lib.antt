@@ -3,6 +3,7 @@ pub mod ExitNumbers
 pub mod Laws
 pub mod MergeOutput
 pub mod MergeRows
+pub mod ModeBytes
 pub mod Outputs
 pub mod Places
 pub mod Refusals
