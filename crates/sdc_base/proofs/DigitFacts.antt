@@ -9,12 +9,8 @@ use Rattle.std.specs.Char.{is_ascii_digit, digit_value}
 use Rattle.std.specs.List.{take_while}
 use Rattle.std.specs.Str.{all_ascii_digits}
 use Rattle.std.specs.Str.Parse.{digits_value, digits_value_after}
+use Rattle.sdc_base.proofs.CaseFacts.{by_bool}
 use Rattle.sdc_base.proofs.NearestFacts.{ten_mono, ten_suc}
-
--- cases on a test, with what it is
-pub by_bool : (P : Bool → Type 0) (b : Bool) → (b ≡ true → P true) → (b ≡ false → P false) → P b
-by_bool P true t f = t refl
-by_bool P false t f = f refl
 
 pub own : IsNumeralModel (λ ds. all_ascii_digits ds ≡ true) (digits_value 10)
 own = numerals_by_value _ tells_all_ascii_digits

@@ -4,7 +4,7 @@ use Rattle.std.proofs.lemmas.Bool.Decides.{nat_tests}
 use Rattle.sdc_base.specs.Number.{Number, Parts, is_number, is_minus, is_whole, numerator, denominator, nearest, IsNearest, with_sign, number_of, decimals_in, lowered, parts_of, read_number}
 use Rattle.sdc_base.specs.NumberLaws.{Means, Spells, ReadIsSpelled, SpelledIsRead, RangeIsExact, FormIsExact}
 use Rattle.sdc_base.specs.declared.fixed.NumberError.TheVariants.{NumberForm, NumberRange}
-use Rattle.sdc_base.proofs.DigitFacts.{by_bool}
+use Rattle.sdc_base.proofs.CaseFacts.{by_bool}
 use Rattle.sdc_base.proofs.NearestFacts.{ten_pos, IsNearest-nearest, nearest-IsNearest}
 use Rattle.sdc_base.proofs.ReadFacts.{abs_with_sign, read_is}
 use Rattle.sdc_base.proofs.SpellingFacts.{spelling-parts_of, parts_of-spelling}

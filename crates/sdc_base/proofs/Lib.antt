@@ -1,3 +1,4 @@
+pub mod CaseFacts
 pub mod DigitFacts
 pub mod LawFacts
 pub mod NearestFacts

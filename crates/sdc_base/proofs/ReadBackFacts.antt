@@ -1,5 +1,6 @@
 -- The text of a time is read back as that time.
 use Rattle.std.proofs.Common.{◌≡◌, ℕ, zero, suc, ◌+◌, ◌*◌, ◌/◌, ◌%◌, ◌^◌, ◌<◌, ◌≤◌, Bool, true, false, cond, nat_eq, nat_lt, nat_le, List, [], ◌∷◌, ◌++◌, length, Option, Some, None, Ok, ℤ, pos, refl, sym, ap, subst, ◌∙◌, inl, inr, arith, lit<, lit≤, length-append, add-zero}
+use Rattle.std.proofs.lemmas.Bool.{and_parts}
 use Rattle.std.proofs.lemmas.Bool.Decides.{nat_tests}
 use Rattle.std.proofs.lemmas.List.{append-nil}
 use Rattle.std.proofs.lemmas.Fmt.{digits_decimal, digits_value-decimal, length-decimal-le, decimal_nonempty}
@@ -14,12 +15,12 @@ use Rattle.std.specs.Str.Parse.{digits_value, digits_value_after}
 use Rattle.sdc_base.specs.Number.{Sign, unsigned, minus, Parts, sign_text, point_text, spelling, decimals_in, is_number, is_minus, numerator, denominator, nearest, with_sign}
 use Rattle.sdc_base.specs.NumberLaws.{Spells, ReadsBack, is_time_byte, IsTimeText, TimeTextReadsBack, TimeTextIsPlain}
 use Rattle.sdc_base.specs.Time.{IsUnit, time_of, minus_text, places, decimals_text, time_text_of}
-use Rattle.sdc_base.proofs.DigitFacts.{by_bool, own, all_digits_first, digits_value_after-append}
+use Rattle.sdc_base.proofs.CaseFacts.{by_bool}
+use Rattle.sdc_base.proofs.DigitFacts.{own, all_digits_first, digits_value_after-append}
 use Rattle.sdc_base.proofs.LawFacts.{with_magnitude, number_of_below, read_spelled}
 use Rattle.sdc_base.proofs.NearestFacts.{nearest_cancel, nearest_one, ten_pos}
 use Rattle.sdc_base.proofs.PlaceFacts.{places_none, length-places, all_digits-places, digits_value-places}
 use Rattle.sdc_base.proofs.ReadFacts.{abs_with_sign}
-use Rattle.sdc_base.proofs.SpellingFacts.{both}
 use Rattle.sdc_base.proofs.TimeFacts.{time_below, with_sign_abs, is_negative-with_sign}
 
 -- what the proof knows of a unit of u femtoseconds: g of them in 10 ^ 9, and six places are enough
@@ -203,7 +204,7 @@ time_text_reads_back fs unit h l =
 pub list_all-append : (p : ℕ → Bool) (xs ys : List ℕ) → list_all p xs ≡ true → list_all p ys ≡ true → list_all p (xs ++ ys) ≡ true
 list_all-append p [] ys a b = b
 list_all-append p (x ∷ xs) ys a b =
-    let f = both (p x) (list_all p xs) a in
+    let f = and_parts (p x) (list_all p xs) a in
     rw (f.0, list_all-append p xs ys f.1 b) refl
 
 pub time_bytes : (ds : List ℕ) → all_ascii_digits ds ≡ true → list_all is_time_byte ds ≡ true

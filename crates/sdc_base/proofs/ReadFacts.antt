@@ -12,7 +12,7 @@ use Rattle.sdc_base.specs.NumberText.{power_of}
 use Rattle.sdc_base.specs.declared.fixed.NumberError.{NumberError}
 use Rattle.sdc_base.specs.declared.fixed.NumberError.TheVariants.{NumberForm, NumberRange}
 use Rattle.sdc_base.specs.declared.number_text.Power.{Power}
-use Rattle.sdc_base.proofs.DigitFacts.{by_bool}
+use Rattle.sdc_base.proofs.CaseFacts.{by_bool}
 use Rattle.sdc_base.proofs.NearestFacts.{nearest_one}
 
 -- what the scans of a text found

@@ -1,5 +1,6 @@
 -- A text has no parts but those that spell it.
 use Rattle.std.proofs.Common.{◌≡◌, ℕ, ◌+◌, ◌⊎◌, Bool, true, false, ◌&&◌, ◌||◌, cond, eqb, List, [], ◌∷◌, ◌++◌, length, Option, Some, None, refl, ap, ◌∙◌, inl, inr, arith}
+use Rattle.std.proofs.lemmas.Bool.{and_parts}
 use Rattle.std.proofs.lemmas.Bool.Decides.{nat_tests}
 use Rattle.std.proofs.Math.Seq.{take-append_seam, drop-append_seam}
 use Rattle.std.proofs.lemmas.List.{take-append-drop, append-nil}
@@ -7,7 +8,8 @@ use Rattle.std.specs.Char.{is_ascii_digit}
 use Rattle.std.specs.List.{prefix_len, take_while}
 use Rattle.std.specs.Str.{all_ascii_digits}
 use Rattle.sdc_base.specs.Number.{Sign, unsigned, plus, minus, Exponent, Parts, sign_text, point_text, exponent_text, spelling, decimals_in, is_exponent, is_count, is_number, sign_of, after_sign, after_digits, behind_of, after_behind, exponent_of, parts_of}
-use Rattle.sdc_base.proofs.DigitFacts.{by_bool, digit_is, all_digits_first}
+use Rattle.sdc_base.proofs.CaseFacts.{by_bool}
+use Rattle.sdc_base.proofs.DigitFacts.{digit_is, all_digits_first}
 
 -- ---- the parts of a text spell it
 
@@ -49,10 +51,6 @@ pub record NotLed (text : List ℕ) : Type 0 where
   pub digit : prefix_len is_ascii_digit text ≡ 0
   pub sign : sign_of text ≡ unsigned
   pub point : behind_of text ≡ None
-
-pub either : (a b : Bool) → a || b ≡ true → (a ≡ true) ⊎ (b ≡ true)
-either true b h = inl refl
-either false b h = inr h
 
 pub exponent_mark : (e : Exponent) → is_exponent (Some e) ≡ true → (e.mark ≡ 101) ⊎ (e.mark ≡ 69)
 exponent_mark e h = grind (arith, nat_tests)
@@ -113,15 +111,11 @@ exponent_of-exponent_text (Some e) h =
     let s = rw append-nil at (sign_of-digits e.digits [] d refl) in
     rw (sign_of-sign_text e.sign e.digits s, after_sign-sign_text e.sign e.digits s) refl
 
-pub both : (a b : Bool) → a && b ≡ true → (a ≡ true) × (b ≡ true)
-both true b h = (refl, h)
-both false b h = absurd cc
-
 pub is_number_parts : (p : Parts) → is_number p ≡ true → (is_exponent p.exponent ≡ true) × (is_count (length p.before + length (decimals_in p.behind)) ≡ true) × (all_ascii_digits p.before ≡ true) × (all_ascii_digits (decimals_in p.behind) ≡ true)
 is_number_parts p h =
-    let f = both _ (all_ascii_digits (decimals_in p.behind)) h in
-    let g = both _ (all_ascii_digits p.before) f.0 in
-    let e = both (is_exponent p.exponent) (is_count (length p.before + length (decimals_in p.behind))) g.0 in
+    let f = and_parts _ (all_ascii_digits (decimals_in p.behind)) h in
+    let g = and_parts _ (all_ascii_digits p.before) f.0 in
+    let e = and_parts (is_exponent p.exponent) (is_count (length p.before + length (decimals_in p.behind))) g.0 in
     (e.0, e.1, g.1, f.1)
 
 pub parts-same : (p : Parts) (s : Sign) (b : List ℕ) (d : Option (List ℕ)) (e : Option Exponent) → s ≡ p.sign → b ≡ p.before → d ≡ p.behind → e ≡ p.exponent → (let q : Parts = record { sign = s; before = b; behind = d; exponent = e } in q) ≡ p

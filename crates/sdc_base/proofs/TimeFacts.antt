@@ -9,7 +9,7 @@ use mir.Val.{SFits}
 use Rattle.sdc_base.specs.Number.{Number, nearest, with_sign}
 use Rattle.sdc_base.specs.Time.{time_of}
 use Rattle.sdc_base.specs.NumberLaws.{IsTime, TimeIsNearest, TimeRangeIsExact}
-use Rattle.sdc_base.proofs.DigitFacts.{by_bool}
+use Rattle.sdc_base.proofs.CaseFacts.{by_bool}
 use Rattle.sdc_base.proofs.NearestFacts.{IsNearest-nearest, nearest-IsNearest}
 use Rattle.sdc_base.proofs.ReadFacts.{abs_with_sign}
 use Rattle.sdc_base.specs.declared.fixed.NumberError.TheVariants.{NumberRange}

@@ -16,10 +16,6 @@ ReadSoFar read None (Some now) = ⊥
 ReadSoFar read (Some before) None = ⊥
 ReadSoFar read (Some before) (Some now) = ReadSome read before now
 
-pub nothing_read : (start : Option Reading) → ReadSoFar [] start start
-nothing_read None = tt
-nothing_read (Some start) = record { files = refl; begun = refl; joined = grind (arith, common_steps) }
-
 pub rest_moved : (now : Reading) (count : ℕ) → rest_of (record now { offset = now.offset + count }) ≡ drop count (rest_of now)
 rest_moved now count = grind (arith, common_steps)
 

@@ -14,15 +14,6 @@ WrittenSoFar channel bytes None (Some now) = ⊥
 WrittenSoFar channel bytes (Some before) None = ⊥
 WrittenSoFar channel bytes (Some before) (Some now) = now ≡ appended channel bytes before
 
-pub nothing_appended : (channel : Channel) (start : Written) → start ≡ appended channel [] start
-nothing_appended Report start = grind (arith, common_steps)
-nothing_appended Faults start = grind (arith, common_steps)
-nothing_appended Merged start = grind (arith, common_steps)
-
-pub nothing_written : (channel : Channel) (start : Option Written) → WrittenSoFar channel [] start start
-nothing_written channel None = tt
-nothing_written channel (Some start) = nothing_appended channel start
-
 pub appended_twice : (channel : Channel) (xs ys : List ℕ) (start : Written) → appended channel ys (appended channel xs start) ≡ appended channel (xs ++ ys) start
 appended_twice Report xs ys start = grind (arith, common_steps)
 appended_twice Faults xs ys start = grind (arith, common_steps)

@@ -5,8 +5,8 @@ ghost use Rattle.sdc_base.specs.Counting.{is_listed, next_count};
 
 use crate::lists::List;
 
-/// One more, up to the last value of a count.
-pub(crate) fn raised(count: u64) -> u64
+/// The count after one more; it stands at its last value, 2^64 - 1. This project's own rule.
+pub fn next_count(count: u64) -> u64
     ensures { result ≡ next_count count }
 {
     count.saturating_add(1)

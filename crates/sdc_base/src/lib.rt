@@ -29,6 +29,7 @@ mod texts;
 mod times;
 mod whole;
 
+pub use counting::next_count;
 pub use duplicate::Duplicate;
 pub use fixed::{Fixed, NumberError};
 pub use lists::{Bits, List};

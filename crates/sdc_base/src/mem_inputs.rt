@@ -5,7 +5,7 @@ ghost use Rattle.sdc_base.specs.Counting.{Rose};
 ghost use Rattle.sdc_base.specs.Files.{Begins, Reads};
 ghost use Rattle.sdc_base.specs.MemoryInputs.{mem_files, MemBegins, MemReads};
 
-use crate::counting::{contains, raised};
+use crate::counting::{contains, next_count};
 use crate::files::{bytes_under, has_name, read_at};
 use crate::memory_forms::MemInputs;
 use crate::outside::{Inputs, Refusal};
@@ -21,9 +21,9 @@ impl Inputs for MemInputs {
         ensures faults { self.old.faults ≤ self.new.faults }
         ensures failed { result ≡ Err Refusal.Failed → Rose self.old.faults self.new.faults }
     {
-        self.calls = raised(self.calls);
+        self.calls = next_count(self.calls);
         if contains(&self.fail, self.calls) || !has_name(&self.files, name) {
-            self.faults = raised(self.faults);
+            self.faults = next_count(self.faults);
             return Err(Refusal::Failed);
         }
         self.name.set(name)?;
@@ -40,9 +40,9 @@ impl Inputs for MemInputs {
         ensures faults { self.old.faults ≤ self.new.faults }
         ensures failed { result ≡ Err Refusal.Failed → Rose self.old.faults self.new.faults }
     {
-        self.calls = raised(self.calls);
+        self.calls = next_count(self.calls);
         if contains(&self.fail, self.calls) || !self.begun {
-            self.faults = raised(self.faults);
+            self.faults = next_count(self.faults);
             return Err(Refusal::Failed);
         }
         let bytes = bytes_under(&self.files, self.name.as_str());

@@ -5,7 +5,7 @@ ghost use Rattle.sdc_base.specs.Counting.{Rose};
 ghost use Rattle.sdc_base.specs.Channels.{Creates, Writes};
 ghost use Rattle.sdc_base.specs.MemoryOutputs.{mem_channels, MemCreates, MemWrites};
 
-use crate::counting::{contains, raised};
+use crate::counting::{contains, next_count};
 use crate::memory_forms::MemOutputs;
 use crate::outside::{Channel, Outputs, Refusal};
 
@@ -20,9 +20,9 @@ impl Outputs for MemOutputs {
         ensures faults { self.old.faults ≤ self.new.faults }
         ensures failed { result ≡ Err Refusal.Failed → Rose self.old.faults self.new.faults }
     {
-        self.calls = raised(self.calls);
+        self.calls = next_count(self.calls);
         if contains(&self.fail, self.calls) {
-            self.faults = raised(self.faults);
+            self.faults = next_count(self.faults);
             return Err(Refusal::Failed);
         }
         self.name.set(name)?;
@@ -39,9 +39,9 @@ impl Outputs for MemOutputs {
         ensures faults { self.old.faults ≤ self.new.faults }
         ensures failed { result ≡ Err Refusal.Failed → Rose self.old.faults self.new.faults }
     {
-        self.calls = raised(self.calls);
+        self.calls = next_count(self.calls);
         if contains(&self.fail, self.calls) {
-            self.faults = raised(self.faults);
+            self.faults = next_count(self.faults);
             return Err(Refusal::Failed);
         }
         let count = self.most.min(piece.len());

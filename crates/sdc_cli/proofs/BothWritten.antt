@@ -1,5 +1,5 @@
 -- The merged file made, written whole, and then the report.
-use Rattle.std.proofs.Common.{◌≡◌, ℕ, List, [], ◌++◌, Option, Some, None, Result, Ok, Err, refl, sym, ◌∙◌, ap, inl, inr, append-nil}
+use Rattle.std.proofs.Common.{◌≡◌, ℕ, List, [], Option, Some, None, Result, Ok, Err, refl, sym, ◌∙◌, ap, inl, inr, append-nil}
 use Rattle.sdc_base.specs.Channels.{Written, Creates, WritesAll, appended}
 use Rattle.sdc_base.specs.declared.outside.Channel.TheVariants.{Report, Merged}
 use Rattle.sdc_base.specs.declared.outside.Refusal.{Refusal}

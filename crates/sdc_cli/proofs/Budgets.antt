@@ -1,10 +1,10 @@
 -- What a parsed number says of a text as a budget.
-use Rattle.std.proofs.Common.{◌≡◌, ◌<◌, ◌≤◌, ◌&&◌, ◌^◌, ℕ, Bool, true, false, List, length, Result, Ok, Err, nat_lt, nat_le, refl, sym, ◌∙◌, ap, arith}
+use Rattle.std.proofs.Common.{◌≡◌, ◌<◌, ◌≤◌, ◌&&◌, ℕ, Bool, true, false, List, length, Result, Ok, Err, nat_lt, nat_le, refl, sym, ◌∙◌, ap, arith}
 use Rattle.std.proofs.lemmas.Bool.{lt-ltb, ltb-true, leb-true}
-use Rattle.std.specs.Str.{all_ascii_digits}
-use Rattle.std.specs.Str.Parse.{ParsesUnsigned, IsNumeral, digits_value, without_leading_plus}
-use Rattle.sdc_base.proofs.DigitFacts.{own, by_bool}
-use Rattle.sdc_model.specs.CommandLine.{is_budget, is_budget_text}
+use Rattle.std.specs.Str.Parse.{ParsesUnsigned, digits_value, without_leading_plus}
+use Rattle.sdc_base.proofs.CaseFacts.{by_bool}
+use Rattle.sdc_base.proofs.DigitFacts.{own}
+use Rattle.sdc_model.specs.CommandLine.{is_budget}
 
 -- a number from 1 to the greatest budget
 abbrev pub is_within : {E : Type 0} → Result ℕ E → Bool

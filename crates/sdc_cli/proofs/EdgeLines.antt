@@ -6,10 +6,10 @@ use Rattle.sdc_model.specs.declared.edge_times.Relation.{Relation}
 use Rattle.sdc_model.specs.declared.edge_times.TimedEdge.{TimedEdge}
 use Rattle.sdc_model.specs.declared.modes.Mode.{Mode}
 use Rattle.sdc_model.specs.Relation.{IsRelation}
-use Rattle.sdc_model.specs.EdgesText.{clock_edges, edges_of, AreTimed, HaveTimes, ModesHaveTimes, Appends, AreLinesFrom, AreLines, AreReports, IsReport, edge_line, edge_text, relation_text}
+use Rattle.sdc_model.specs.EdgesText.{clock_edges, AreTimed, HaveTimes, Appends, AreLinesFrom, AreLines, AreReports, IsReport, edge_line, edge_text, relation_text}
 use Rattle.sdc_cli.specs.LineParts.{front_text, line_rest}
 
-pub AreTimed-append : (es fs : List TimedEdge) → AreTimed es → AreTimed fs → AreTimed (es ++ fs)
+AreTimed-append : (es fs : List TimedEdge) → AreTimed es → AreTimed fs → AreTimed (es ++ fs)
 AreTimed-append [] fs timed others = others
 AreTimed-append (e ∷ es) fs timed others = (timed.0, AreTimed-append es fs timed.1 others)
 
@@ -17,14 +17,6 @@ AreTimed-append (e ∷ es) fs timed others = (timed.0, AreTimed-append es fs tim
 pub AreTimed-clock_edges : (clocks : List Clock) → HaveTimes clocks → AreTimed (clock_edges clocks)
 AreTimed-clock_edges [] have = tt
 AreTimed-clock_edges (clock ∷ clocks) have = AreTimed-append _ _ have.0 (AreTimed-clock_edges clocks have.1)
-
-pub HaveTimes-push : (clocks : List Clock) (clock : Clock) → HaveTimes clocks → AreTimed (edges_of clock.name clock.form) → HaveTimes (clocks ++ clock ∷ [])
-HaveTimes-push [] clock have timed = (timed, tt)
-HaveTimes-push (c ∷ clocks) clock have timed = (have.0, HaveTimes-push clocks clock have.1 timed)
-
-pub ModesHaveTimes-push : (modes : List Mode) (mode : Mode) → ModesHaveTimes modes → HaveTimes mode.clocks → ModesHaveTimes (modes ++ mode ∷ [])
-ModesHaveTimes-push [] mode have timed = (timed, tt)
-ModesHaveTimes-push (m ∷ modes) mode have timed = (have.0, ModesHaveTimes-push modes mode have.1 timed)
 
 -- the rest of a list from a place on begins with the item there
 pub drop-item : {A : Type 0} (xs : List A) (i : ℕ) (x : A) → i < length xs → x ≡ get_or xs i x → drop i xs ≡ x ∷ drop (i + 1) xs

@@ -1,6 +1,6 @@
 -- The set of exclusive pairs as it grows, and the list of its pairs.
 use Rattle.std.proofs.Common.{◌≡◌, ◌≢◌, ◌<◌, ◌||◌, ◌&&◌, ◌==◌, inl, inr, ℕ, Bool, true, false, cond, min, max, List, [], ◌∷◌, Result, Ok, Err, nat_lt, refl, sym, ◌∙◌, ap, arith}
-use Rattle.std.proofs.lemmas.Bool.Decides.{nat_tests}
+use Rattle.std.proofs.lemmas.Bool.{and_from, and_parts, lt-ltb, ltb-true, or_cases, or_left, or_right}
 use Rattle.std.specs.BTreeMap.{is_at}
 use Rattle.std.specs.BTreeSet.{BTreeSet, contains}
 use Rattle.std.specs.List.{list_any, AllByRecursion}
@@ -10,7 +10,6 @@ use Rattle.std.specs.declared.cmp.Ordering.TheVariants.{Less}
 use Rattle.sdc_model.specs.declared.clocks.Pair.{Pair}
 use Rattle.sdc_model.specs.ClockGroups.{Groups, is_among, is_parted, pairs_from, exclusive_pairs}
 use Rattle.sdc_cli.specs.Exclusive.{GroupsBelow, HasMore, HasSame, has_pair, pair_cmp, parts, parts_some, parts_any, parts_in}
-use Rattle.sdc_cli.proofs.GroupPlaces.{either}
 use Rattle.clock_map.proofs.RisingPairs.{AllAfter, Rising, Among, same_lists}
 use Rattle.sdc_cli.proofs.RisingPairs.{pair_is_parted, pair_is_same, before_from_less}
 use Rattle.sdc_cli.proofs.PairLists.{from_sound, from_complete, rising_from}
@@ -40,15 +39,8 @@ rising_from_sorted (p ∷ ps) sorted = (rising_after p ps sorted.0, rising_from_
 among_from_has : (p : Pair) (qs : List Pair) → list_any (is_at (pair_cmp p)) qs ≡ true → Among p qs
 among_from_has p [] has = cc
 among_from_has p (q ∷ qs) has =
-    either (is_at (pair_cmp p) q) (list_any (is_at (pair_cmp p)) qs) (Among p (q ∷ qs)) (λ here. inl ((pair_is_same p q).0 here)) (λ there. inr (among_from_has p qs there)) has
-
-or_left : (s t : Bool) → s ≡ true → (s || t) ≡ true
-or_left true t e = refl
-or_left false t e = cc
-
-or_right : (s t : Bool) → t ≡ true → (s || t) ≡ true
-or_right true t e = refl
-or_right false t e = e
+    elim (or_cases (is_at (pair_cmp p) q) (list_any (is_at (pair_cmp p)) qs) has)
+    [ inl here ↦ inl ((pair_is_same p q).0 here) | inr there ↦ inr (among_from_has p qs there) ]
 
 has_from_among : (p : Pair) (qs : List Pair) → Among p qs → list_any (is_at (pair_cmp p)) qs ≡ true
 has_from_among p [] among = absurd among
@@ -98,38 +90,31 @@ parts_in-is (g ∷ groups) p =
     ∙ both_of (nat_lt p.first p.second) (is_among p.first g.first && is_among p.second g.second) (is_among p.second g.first && is_among p.first g.second) (is_parted groups p.first p.second))
 
 -- parted clocks are clocks
-both : (s t : Bool) → (s && t) ≡ true → (s ≡ true) × (t ≡ true)
-both true t e = (refl, e)
-both false t e = cc
-
 parted_below : (count i j : ℕ) (groups : List Groups) → GroupsBelow count groups → is_parted groups i j ≡ true → j < count
 parted_below count i j [] below parted = cc
 parted_below count i j (g ∷ groups) below parted =
-    either ((is_among i g.first && is_among j g.second) || (is_among j g.first && is_among i g.second)) (is_parted groups i j) (j < count)
-    (either (is_among i g.first && is_among j g.second) (is_among j g.first && is_among i g.second) (j < count)
-    (λ one. below.1 j (both (is_among i g.first) (is_among j g.second) one).1) (λ other. below.0 j (both (is_among j g.first) (is_among i g.second) other).0))
-    (parted_below count i j groups below.2) parted
-
-less : (a b : ℕ) → (nat_lt a b ≡ true → a < b) × (a < b → nat_lt a b ≡ true)
-less a b = (λ e. grind (arith, nat_tests), λ e. grind (arith, nat_tests))
-
-and_both : (s t : Bool) → s ≡ true → t ≡ true → (s && t) ≡ true
-and_both true t e f = f
-and_both false t e f = cc
+    elim (or_cases ((is_among i g.first && is_among j g.second) || (is_among j g.first && is_among i g.second)) (is_parted groups i j) parted) [
+      | inl here ↦
+          elim (or_cases (is_among i g.first && is_among j g.second) (is_among j g.first && is_among i g.second) here) [
+            | inl one ↦ below.1 j (and_parts (is_among i g.first) (is_among j g.second) one).1
+            | inr other ↦ below.0 j (and_parts (is_among j g.first) (is_among i g.second) other).0
+          ]
+      | inr there ↦ parted_below count i j groups below.2 there
+    ]
 
 -- the list of a set that has the pairs of all groups
-pub exclusive_is : (pairs : List Pair) (groups : List Groups) (count : ℕ) → IsStrictlySortedBy pair_cmp pairs
+exclusive_is : (pairs : List Pair) (groups : List Groups) (count : ℕ) → IsStrictlySortedBy pair_cmp pairs
     → ((pair : Pair) → list_any (is_at (pair_cmp pair)) pairs ≡ parts_in groups pair) → GroupsBelow count groups → pairs ≡ exclusive_pairs groups count
 exclusive_is pairs groups count sorted has below =
     same_lists pairs (pairs_from groups 0 count) (rising_from_sorted pairs sorted) (rising_from groups 0 count)
     (λ p here.
     let parts : (nat_lt p.first p.second && is_parted groups p.first p.second) ≡ true = sym (parts_in-is groups p) ∙ (sym (has p) ∙ has_from_among p pairs here) in
-    let ordered = both (nat_lt p.first p.second) (is_parted groups p.first p.second) parts in
+    let ordered = and_parts (nat_lt p.first p.second) (is_parted groups p.first p.second) parts in
     let small : p.second < count = parted_below count p.first p.second groups below ordered.1 in
-    from_complete groups 0 count p (record { low = omega arith; ordered = (less p.first p.second).0 ordered.0; high = omega arith; parted = ordered.1 }))
+    from_complete groups 0 count p (record { low = omega arith; ordered = ltb-true p.first p.second ordered.0; high = omega arith; parted = ordered.1 }))
     (λ p here.
     let is = from_sound groups 0 count p here in
-    let parts : (nat_lt p.first p.second && is_parted groups p.first p.second) ≡ true = and_both (nat_lt p.first p.second) (is_parted groups p.first p.second) ((less p.first p.second).1 is.ordered) is.parted in
+    let parts : (nat_lt p.first p.second && is_parted groups p.first p.second) ≡ true = and_from (nat_lt p.first p.second) (is_parted groups p.first p.second) (lt-ltb p.first p.second is.ordered) is.parted in
     among_from_has p pairs (has p ∙ (parts_in-is groups p ∙ parts)))
 
 -- the answer of the reader, where it is one

@@ -1,6 +1,6 @@
 -- Places of clocks in groups are below the number of the clocks.
-use Rattle.std.proofs.Common.{◌≡◌, ◌<◌, ◌≤◌, ◌==◌, ◌+◌, ◌||◌, ℕ, suc, Bool, true, false, cond, List, [], ◌∷◌, ◌++◌, length, Option, Some, None, refl, subst, arith}
-use Rattle.std.proofs.lemmas.Bool.Decides.{Decides-eqb}
+use Rattle.std.proofs.Common.{◌≡◌, ◌<◌, ◌≤◌, ◌==◌, ◌+◌, ℕ, suc, Bool, true, false, cond, List, [], ◌∷◌, ◌++◌, length, Option, Some, None, refl, subst, arith, inl, inr}
+use Rattle.std.proofs.lemmas.Bool.{eqb-true, or_cases}
 use Rattle.std.specs.Option.{option_and_then}
 use Rattle.sdc_model.specs.declared.clocks.Clock.{Clock}
 use Rattle.sdc_model.specs.declared.commands.Part.{Part}
@@ -18,13 +18,10 @@ place_from-below place p [] name e = cc
 place_from-below place p (clock ∷ clocks) name e =
     place_step (same_text clock.name name) place p (length clocks) (place_from (place + 1) clocks name) (place_from-below (place + 1) p clocks name) e
 
-pub either : (s t : Bool) (P : Type 0) → (s ≡ true → P) → (t ≡ true → P) → (s || t) ≡ true → P
-either true t P left right e = left refl
-either false t P left right e = right e
-
 below_cons : (n p : ℕ) (ps : List ℕ) → p < n → AreBelow n ps → AreBelow n (p ∷ ps)
 below_cons n p ps here others place among =
-    either (p == place) (is_among place ps) (place < n) (λ same. let e : p ≡ place = (Decides-eqb p place).0 same in omega arith) (others place) among
+    elim (or_cases (p == place) (is_among place ps) among)
+    [ inl same ↦ let e : p ≡ place = eqb-true p place same in omega arith | inr there ↦ others place there ]
 
 places_step : (n : ℕ) (found : Option ℕ) (others : Option (List ℕ)) (ps : List ℕ) → ((p : ℕ) → found ≡ Some p → p < n)
     → ((qs : List ℕ) → others ≡ Some qs → AreBelow n qs) → option_and_then (λ place. option_and_then (λ places. Some (place ∷ places)) others) found ≡ Some ps → AreBelow n ps

@@ -1,9 +1,8 @@
--- Braced lists of names, and the places of the names of a list.
-use Rattle.std.proofs.Common.{◌≡◌, ◌≢◌, ◌<◌, ◌==◌, ℕ, suc, Bool, true, false, List, [], ◌∷◌, ◌++◌, length, get_or, Option, Some, None, refl, sym, ◌∙◌, ap, arith, append_assoc, append-nil}
+-- Braced lists of names.
+use Rattle.std.proofs.Common.{◌≡◌, ◌≢◌, ◌<◌, ◌==◌, ℕ, suc, Bool, true, false, List, [], ◌∷◌, ◌++◌, length, get_or, Option, Some, None, refl, ◌∙◌, ap, arith}
 use Rattle.std.proofs.lemmas.Bool.Decides.{Decides-eqb}
 use Rattle.std.specs.Option.{option_and_then}
-use Rattle.sdc_model.specs.declared.clocks.Clock.{Clock}
-use Rattle.sdc_model.specs.ClockGroups.{at_end, before_brace, behind_blanks, braced_text, place_from, places_of}
+use Rattle.sdc_model.specs.ClockGroups.{at_end, before_brace, behind_blanks, braced_text}
 
 -- no byte of a text is this one
 abbrev pub Lacks : ℕ → List ℕ → Type 0
@@ -19,7 +18,7 @@ differs x c ne false e = refl
 lacks_head : (c x : ℕ) (xs : List ℕ) → Lacks c (x ∷ xs) → (x == c) ≡ false
 lacks_head c x xs lacks = differs x c (lacks 0 (omega arith)) (x == c) refl
 
-pub before_brace-none : (xs : List ℕ) → Lacks 125 xs → before_brace xs ≡ None
+before_brace-none : (xs : List ℕ) → Lacks 125 xs → before_brace xs ≡ None
 before_brace-none [] lacks = refl
 before_brace-none (x ∷ xs) lacks =
     rw (lacks_head 125 x xs lacks) (ap (option_and_then (λ inner. Some (x ∷ inner))) (before_brace-none xs (lacks_tail 125 x xs lacks)))
@@ -65,37 +64,3 @@ braced_step b bs false e none = rw e refl
 pub braced_text-none : (text : List ℕ) → ((rest : List ℕ) → text ≢ 123 ∷ rest) → braced_text text ≡ None
 braced_text-none [] none = refl
 braced_text-none (b ∷ bs) none = braced_step b bs (b == 123) refl none
-
--- places of names in front of those of other names
-abbrev pub in_front : List ℕ → Option (List ℕ) → Option (List ℕ)
-in_front places None = None
-in_front places (Some others) = Some (places ++ others)
-
-with_place : (places : List ℕ) (place : ℕ) (others : Option (List ℕ))
-    → in_front places (option_and_then (λ ps. Some (place ∷ ps)) others) ≡ in_front (places ++ place ∷ []) others
-with_place places place None = refl
-with_place places place (Some others) = ap Some (sym (append_assoc places (place ∷ []) others))
-
-one_name : (clocks : List Clock) (places : List ℕ) (name : List ℕ) (names : List (List ℕ)) (place : ℕ) → place_from 0 clocks name ≡ Some place
-    → in_front places (places_of clocks (name ∷ names)) ≡ in_front (places ++ place ∷ []) (places_of clocks names)
-one_name clocks places name names place e = rw e (with_place places place (places_of clocks names))
-
--- one more name
-pub places_of-more : (clocks : List Clock) (places : List ℕ) (name : List ℕ) (place : ℕ) (named left others : List (List ℕ))
-    → places_of clocks named ≡ in_front places (places_of clocks left) → left ≡ name ∷ others → place_from 0 clocks name ≡ Some place
-    → places_of clocks named ≡ in_front (places ++ place ∷ []) (places_of clocks others)
-places_of-more clocks places name place named left others so_far here e =
-    so_far ∙ (ap (λ names. in_front places (places_of clocks names)) here ∙ one_name clocks places name others place e)
-
-pub places_of-none : (clocks : List Clock) (places name : List ℕ) (named left others : List (List ℕ))
-    → places_of clocks named ≡ in_front places (places_of clocks left) → left ≡ name ∷ others → place_from 0 clocks name ≡ None
-    → places_of clocks named ≡ None
-places_of-none clocks places name named left others so_far here e =
-    let none : places_of clocks (name ∷ others) ≡ None = rw e refl in
-    so_far ∙ ap (in_front places) (ap (places_of clocks) here ∙ none)
-
-pub places_of-all : (clocks : List Clock) (places : List ℕ) (named left : List (List ℕ))
-    → places_of clocks named ≡ in_front places (places_of clocks left) → left ≡ []
-    → places_of clocks named ≡ Some places
-places_of-all clocks places named left so_far none =
-    so_far ∙ (ap (λ names. in_front places (places_of clocks names)) none ∙ ap Some (append-nil places))

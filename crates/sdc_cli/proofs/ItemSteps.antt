@@ -1,5 +1,6 @@
 -- Blanks at the front of a text, and its first item.
 use Rattle.std.proofs.Common.{◌≡◌, ◌≤◌, ◌<◌, ◌+◌, ◌-◌, ℕ, zero, suc, Bool, true, false, not, List, [], ◌∷◌, length, get_or, take, drop, refl, sym, ◌∙◌, ap, arith, length-drop}
+use Rattle.std.proofs.lemmas.Bool.{not-false}
 use Rattle.std.proofs.lemmas.Grind.{common_steps}
 use Rattle.std.proofs.lemmas.List.Sums.{prefix_len-le-length, prefix_len_passes, prefix_len_stops}
 use Rattle.std.proofs.lemmas.Str.{IsCharBoundary-start, IsCharBoundary-after_ascii}
@@ -14,10 +15,6 @@ is_item_byte b = not (is_blank b)
 
 blank_is_ascii : (b : ℕ) → is_blank b ≡ true → b < 128
 blank_is_ascii b blank = grind (arith, common_steps)
-
-not_true : (t : Bool) → not t ≡ false → t ≡ true
-not_true true e = refl
-not_true false e = sym e
 
 -- a text may be cut behind the blanks at its front
 cut_behind : (text : List ℕ) (n : ℕ) → n ≡ prefix_len is_blank text → IsUtf8 text → IsCharBoundary text n
@@ -37,7 +34,7 @@ cut_behind_blanks text utf8 = cut_behind text _ refl utf8
 pub cut_behind_item : (text : List ℕ) → IsCharBoundary text (prefix_len is_item_byte text)
 cut_behind_item text = (
   prefix_len-le-length is_item_byte text,
-  λ within high. let ascii : get_or text (prefix_len is_item_byte text) 0 < 128 = blank_is_ascii _ (not_true _ (prefix_len_stops is_item_byte text 0 within)) in omega arith,
+  λ within high. let ascii : get_or text (prefix_len is_item_byte text) 0 < 128 = blank_is_ascii _ (not-false _ (prefix_len_stops is_item_byte text 0 within)) in omega arith,
 )
 
 -- what is behind the blanks of a text, as the rest of it
@@ -59,7 +56,7 @@ items_step false b bs tail e =
     let same : behind_blanks (b ∷ bs) ≡ b ∷ bs = rw e refl in
     ap items (sym same)
 
-pub items-behind_blanks : (text : List ℕ) → items text ≡ items (behind_blanks text)
+items-behind_blanks : (text : List ℕ) → items text ≡ items (behind_blanks text)
 items-behind_blanks [] = refl
 items-behind_blanks (b ∷ bs) = items_step _ b bs (items-behind_blanks bs) refl
 

@@ -87,7 +87,7 @@ mode_stands_plain : (numbers : List ℕ) (mode : Mode) → ArePrintableClocks []
     → All IsPlainStanding (standings_from numbers (record { at = [] }) 0 mode.clocks (own_waves mode.clocks))
 mode_stands_plain numbers mode printable = clocks_stand_plain numbers (record { at = [] }) 0 [] mode.clocks printable
 
-pub modes_stand_plain : (modes : List Mode) (maps : List (List ℕ)) → ModesArePrintable modes → All IsPlainStanding (standings_of (views_of modes) maps)
+modes_stand_plain : (modes : List Mode) (maps : List (List ℕ)) → ModesArePrintable modes → All IsPlainStanding (standings_of (views_of modes) maps)
 modes_stand_plain [] maps printable = All-nil IsPlainStanding
 modes_stand_plain (mode ∷ modes) [] printable =
     All-append IsPlainStanding (standings_from [] (record { at = [] }) 0 mode.clocks (own_waves mode.clocks)) (standings_of (views_of modes) [])
@@ -120,7 +120,7 @@ decimal_is_of_name_bytes : (n : ℕ) → list_all is_name_byte (decimal n) ≡ t
 unfolding digits
 decimal_is_of_name_bytes n = digits_are_name_bytes 64 n [] refl
 
-pub numbered_is_name : (name : List ℕ) (k : ℕ) → IsTrue (is_name name) → IsTrue (is_name (numbered_name name k))
+numbered_is_name : (name : List ℕ) (k : ℕ) → IsTrue (is_name name) → IsTrue (is_name (numbered_name name k))
 numbered_is_name name k is =
     let parts = and_parts (nat_lt 0 (length name)) (list_all is_name_byte name) is in
     let some : 0 < length name = ltb-true 0 (length name) parts.0 in
@@ -190,7 +190,7 @@ rest_is_printable clocks before (clock ∷ rest) e each =
 no_wave : Wave
 no_wave = record { period = pos 0; rise = pos 0; fall = pos 0 }
 
-pub merged_is_printable : (modes : List Mode) (answer : ClockMap) → ModesArePrintable modes → IsClockMap (views_of modes) answer → ArePrintableClocks [] answer.clocks
+merged_is_printable : (modes : List Mode) (answer : ClockMap) → ModesArePrintable modes → IsClockMap (views_of modes) answer → ArePrintableClocks [] answer.clocks
 merged_is_printable modes answer printable is = rest_is_printable answer.clocks [] answer.clocks refl each where
   each : (k : ℕ) (clock : Clock) → slice_get answer.clocks k ≡ Some clock
       → IsPrintableClock clock × (Contains (map (λ (c : Clock). c.name) (take k answer.clocks)) clock.name → ⊥)
@@ -224,7 +224,7 @@ pairs_in_order count (pair ∷ pairs) each order =
 contained : (pairs : List Pair) (p : ℕ) (x : Pair) → slice_get pairs p ≡ Some x → Contains pairs x
 contained pairs p x e = (p, slice_get_within pairs p x e, get_or_from_slice_get pairs p x x e)
 
-pub merged_pairs : {views : List View} {maps : List (List ℕ)} {count : ℕ} {pairs : List Pair} → AreExclusivePairs views maps count pairs → ArePairs count pairs
+merged_pairs : {views : List View} {maps : List (List ℕ)} {count : ℕ} {pairs : List Pair} → AreExclusivePairs views maps count pairs → ArePairs count pairs
 merged_pairs {count = count} {pairs = pairs} exclusive = pairs_in_order count pairs each exclusive.order where
   each : (p : ℕ) (x : Pair) → slice_get pairs p ≡ Some x → (x.first < x.second) × (x.second < count)
   each p x e =

@@ -1,5 +1,9 @@
 -- Mode files read one after the other: what was read so far, and what the next file makes of it.
-use Rattle.std.proofs.Common.{◌≡◌, ◌+◌, ℕ, suc, List, [], ◌∷◌, ◌++◌, length, drop, Option, Some, None, Result, Ok, Err, refl, sym, ◌∙◌, ap, subst, inl, inr, append_assoc, append-nil}
+use Rattle.std.proofs.Common.{◌≡◌, ◌+◌, ◌-◌, ◌≤◌, ℕ, suc, true, false, List, [], ◌∷◌, ◌++◌, length, drop, Option, Some, None, Result, Ok, Err, refl, sym, ◌∙◌, ap, subst, inl, inr, append_assoc, append-nil, arith}
+use Rattle.std.proofs.lemmas.Bool.{le-leb, lt-leb}
+use Rattle.std.specs.Prelude.{nat_le}
+use Rattle.sdc_base.specs.declared.memory.At.{At}
+use Rattle.sdc_base.specs.declared.whole.TheConstants.{MOST_BYTES}
 use Rattle.sdc_base.specs.Files.{Reading, bytes_of, ReadsWhole}
 use Rattle.sdc_base.specs.declared.outside.NamedBytes.{NamedBytes}
 use Rattle.sdc_model.specs.declared.answers.Status.{Status}
@@ -8,20 +12,44 @@ use Rattle.sdc_model.specs.declared.command_lines.CommandLine.{CommandLine}
 use Rattle.sdc_model.specs.declared.kinds.Fault.{Fault}
 use Rattle.sdc_model.specs.declared.kinds.Kind.{Kind}
 use Rattle.sdc_model.specs.declared.modes.Mode.{Mode}
-use Rattle.sdc_model.specs.ClockFile.{SaysMode}
 use Rattle.sdc_model.specs.ModeFiles.{SayModes, SaysFile, with_first}
 use Rattle.sdc_model.specs.Answers.{OnTold, FailsReading, files_of, first_place, most_clocks}
+use Rattle.sdc_cli.specs.ModeBytes.{SaysAtMost}
 use Rattle.sdc_cli.specs.Steps.{ReadsMode, ReadsModes}
 
--- a fault of what the bytes of a file say is a fault of the file
-pub told_fault : (most count place line : ℕ) (kind : Kind) (name bytes : List ℕ) (before after : Option Reading)
-    → ReadsWhole name (Ok bytes) before after → SaysMode bytes (Err kind)
-    → OnTold (ReadsMode most count place name (Err (status.Source (record { file = place; line = line; kind = kind })))) before after
-told_fault most count place line kind name bytes None None whole says = tt
-told_fault most count place line kind name bytes None (Some after) whole says = whole
-told_fault most count place line kind name bytes (Some before) None whole says = whole
-told_fault most count place line kind name bytes (Some before) (Some after) whole says =
-    (whole.0, refl, inr (whole.2.1, (Err kind, subst (λ (b : List ℕ). SaysMode b (Err kind)) whole.2.0 says, refl)))
+-- what the bytes of a file say, in the words of all files
+file_says_mode : (most count : ℕ) (bytes : List ℕ) (mode : Mode) → count ≤ most → length bytes ≤ MOST_BYTES → SaysAtMost (most - count) bytes (Ok mode)
+    → SaysFile most count bytes (Ok mode)
+file_says_mode most count bytes mode within short says =
+    let few : nat_le (count + length mode.clocks) most ≡ true = le-leb (count + length mode.clocks) most (omega (arith, says.1)) in
+    inr (short, (Ok mode, says.0, rw few refl))
+
+file_says_fault : (most count : ℕ) (bytes : List ℕ) (fault : At Kind) → count ≤ most → length bytes ≤ MOST_BYTES → SaysAtMost (most - count) bytes (Err fault)
+    → SaysFile most count bytes (Err fault.kind)
+file_says_fault most count bytes fault within short (inl says) = inr (short, (Err fault.kind, says, refl))
+file_says_fault most count bytes fault within short (inr more) =
+    let mode = more.0.0 in
+    let many : nat_le (count + length mode.clocks) most ≡ false = lt-leb (count + length mode.clocks) most (omega (arith, more.0.2)) in
+    inr (short, (Ok mode, more.0.1, rw many (ap (λ (kind : Kind). Err kind) more.1)))
+
+-- and where the file was read whole
+pub told_mode : (most count place : ℕ) (name bytes : List ℕ) (mode : Mode) (before after : Option Reading)
+    → count ≤ most → ReadsWhole name (Ok bytes) before after → SaysAtMost (most - count) bytes (Ok mode)
+    → OnTold (ReadsMode most count place name (Ok mode)) before after
+told_mode most count place name bytes mode None None within whole says = tt
+told_mode most count place name bytes mode None (Some after) within whole says = whole
+told_mode most count place name bytes mode (Some before) None within whole says = whole
+told_mode most count place name bytes mode (Some before) (Some after) within whole says =
+    (whole.0, whole.1, file_says_mode most count (bytes_of before.files name) mode within whole.2.1 (subst (λ (b : List ℕ). SaysAtMost (most - count) b (Ok mode)) whole.2.0 says))
+
+pub told_fault : (most count place : ℕ) (name bytes : List ℕ) (fault : At Kind) (before after : Option Reading)
+    → count ≤ most → ReadsWhole name (Ok bytes) before after → SaysAtMost (most - count) bytes (Err fault)
+    → OnTold (ReadsMode most count place name (Err (status.Source (record { file = place; line = fault.line; kind = fault.kind })))) before after
+told_fault most count place name bytes fault None None within whole says = tt
+told_fault most count place name bytes fault None (Some after) within whole says = whole
+told_fault most count place name bytes fault (Some before) None within whole says = whole
+told_fault most count place name bytes fault (Some before) (Some after) within whole says =
+    (whole.0, refl, file_says_fault most count (bytes_of before.files name) fault within whole.2.1 (subst (λ (b : List ℕ). SaysAtMost (most - count) b (Err fault)) whole.2.0 says))
 
 -- modes in front of what other files say
 abbrev pub in_front : List Mode → Result (List Mode) Fault → Result (List Mode) Fault
@@ -40,17 +68,6 @@ pub record ReadSoFar (most first : ℕ) (names : List (List ℕ)) (at place coun
       → SayModes most before.files first 0 names (in_front modes outcome)
   pub fails : (failed : ℕ) (begun : Option (List ℕ)) → FailsReading most before.files place count now.begun (drop at names) failed begun
       → FailsReading most before.files first 0 before.begun names failed begun
-
-pub ReadSoFar-none : (most first : ℕ) (names : List (List ℕ)) (before : Option Reading) → OnTold (ReadSoFar most first names 0 first 0 []) before before
-ReadSoFar-none most first names None = tt
-ReadSoFar-none most first names (Some before) = record {
-  files = refl;
-  say = all_say;
-  fails = λ failed begun fails. fails;
-} where
-  all_say : (outcome : Result (List Mode) Fault) → SayModes most before.files first 0 names outcome → SayModes most before.files first 0 names (in_front [] outcome)
-  all_say (Ok others) say = say
-  all_say (Err fault) say = say
 
 -- one more mode
 more_read : (most first : ℕ) (names : List (List ℕ)) (name : List ℕ) (at place next count : ℕ) (modes : List Mode) (mode : Mode) (before now after : Reading)

@@ -3,7 +3,7 @@ use Rattle.std.proofs.Common.{◌≡◌, ◌∙◌, ◌++◌, ℕ, List, [], ◌
 use Rattle.sdc_model.specs.declared.edge_times.Relation.{Relation}
 use Rattle.sdc_model.specs.declared.edge_times.TimedEdge.{TimedEdge}
 use Rattle.sdc_model.specs.declared.modes.Mode.{Mode}
-use Rattle.sdc_model.specs.EdgesText.{AreLines, AreLinesFrom, AreReports, clock_edges, edge_line}
+use Rattle.sdc_model.specs.EdgesText.{AreLines, AreLinesFrom, clock_edges, edge_line}
 use Rattle.clock_tree.proofs.OneRelation.{relation_once}
 use Rattle.sdc_cli.specs.Laws.{HaveOneReport}
 

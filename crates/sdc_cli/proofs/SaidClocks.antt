@@ -1,5 +1,5 @@
--- What a clock file says can be printed, its edges have relations, and its clocks are primary.
-use Rattle.std.proofs.Common.{◌≡◌, ◌+◌, ◌%◌, ◌^◌, ◌<◌, ◌≤◌, ◌&&◌, ℕ, ℤ, pos, negsuc, Bool, true, false, not, List, [], ◌∷◌, ◌++◌, Option, Some, None, Result, Ok, Err, inl, inr, refl, sym, ◌∙◌, ap, subst, append_assoc, append-nil, arith, codes}
+-- What a clock file says can be printed, and its edges have relations.
+use Rattle.std.proofs.Common.{◌≡◌, ◌+◌, ◌%◌, ◌^◌, ◌<◌, ◌≤◌, ◌&&◌, ℕ, ℤ, pos, negsuc, Bool, true, false, not, List, [], ◌∷◌, ◌++◌, Option, Some, None, Result, Ok, Err, inl, inr, refl, sym, ap, subst, arith, codes}
 use Rattle.std.proofs.Math.Nat.{mod-le}
 use Rattle.std.proofs.lemmas.Bool.Decides.{nat_tests}
 use Rattle.std.proofs.lemmas.Int.{ints}
@@ -20,11 +20,11 @@ use Rattle.sdc_model.specs.declared.modes.Mode.{Mode}
 use Rattle.sdc_model.specs.ClockFile.{SoFar, is_name, is_taken, virtual_clock, with_clock, wave_given, plain_clock, waved_clock, create_clock, grouped, group_words, set_clock_groups, keep_for, does_named, does, do_all, clock_mode, or_fault, mode_of, SaysMode}
 use Rattle.sdc_model.specs.EdgesText.{AreTimed, edges_of, HaveTimes}
 use Rattle.sdc_model.specs.Items.{items}
-use Rattle.sdc_model.specs.PlainViews.{ArePrimary, IsPrimary}
-use Rattle.sdc_model.specs.PrintedFile.{ArePrintableClocks, IsPrintableClock, IsPrintableWave}
+use Rattle.sdc_model.specs.PrintedFile.{ArePrintableClocks, IsPrintableWave}
 use Rattle.sdc_model.specs.Relation.{IsEdgeOf}
 use Rattle.sdc_model.specs.ClockGroups.{group_of}
 use Rattle.sdc_model.specs.Words.{only_text, is_text}
+use Rattle.sdc_print.proofs.PrintableFacts.{one_more}
 use Rattle.sdc_model.specs.Waveform.{limited_time, time_from, nanoseconds, period_of, plain_wave, moved_down, wave_within, wave_of, waveform_of}
 
 -- ---- answers by steps
@@ -101,12 +101,6 @@ wave_given-holds period (Some waveform) =
     then_holds (IsWithin 2) IsPrintableWave (λ time. waveform_of time waveform) (period_of period) (time_from-holds 2 period) (λ time. wave_of-holds time (items waveform))
 
 -- ---- clocks so far
-
--- one more clock of a new name keeps clocks printable
-one_more : (before clocks : List Clock) (clock : Clock) → ArePrintableClocks before clocks → IsPrintableClock clock → is_taken clock.name (before ++ clocks) ≡ false → ArePrintableClocks before (clocks ++ clock ∷ [])
-one_more before [] clock a p t = (p, ap (is_taken clock.name) (sym (append-nil before)) ∙ t, tt)
-one_more before (first ∷ clocks) clock a p t =
-    (a.0, a.1, one_more (before ++ first ∷ []) clocks clock a.2 p (ap (is_taken clock.name) (append_assoc before (first ∷ []) clocks) ∙ t))
 
 abbrev IsPrintableSoFar : SoFar → Type 0
 IsPrintableSoFar so_far = ArePrintableClocks [] so_far.clocks
@@ -207,12 +201,4 @@ printable_has_times [] before p = tt
 printable_has_times (clock ∷ clocks) before p = (
   form_has_times clock.name clock.form p.0.0 (ap (λ (c : Clock). c.form) p.0.1) p.0.2,
   printable_has_times clocks (before ++ clock ∷ []) p.2,
-)
-
--- printable clocks are primary
-pub printable_is_primary : (clocks before : List Clock) → ArePrintableClocks before clocks → ArePrimary clocks
-printable_is_primary [] before p = tt
-printable_is_primary (clock ∷ clocks) before p = (
-  subst IsPrimary (sym (ap (λ (c : Clock). c.form) p.0.1)) tt,
-  printable_is_primary clocks (before ++ clock ∷ []) p.2,
 )

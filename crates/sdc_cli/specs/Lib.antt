@@ -4,6 +4,7 @@ pub mod Laws
 pub mod LineParts
 pub mod MergeOutput
 pub mod MergeRows
+pub mod ModeBytes
 pub mod Outputs
 pub mod Places
 pub mod Refusals

@@ -1,20 +1,13 @@
 //! Answers of the operating system in the terms of the traits of the outside, their errors counted.
 
 ghost use Rattle.std.specs.Prelude.{◌≡◌, ◌≤◌, OnErr};
-ghost use Rattle.sdc_base.specs.Counting.{Rose, next_count};
+ghost use Rattle.sdc_base.specs.Counting.{Rose};
 ghost use Rattle.std.specs.IoError.{error_kind};
 ghost use Rattle.sdc_cli.specs.Refusals.{refusal_of, answer_of, count_after};
 
-use sdc_base::Refusal;
+use sdc_base::{Refusal, next_count};
 use std::io;
 use std::io::ErrorKind;
-
-/// The count of faults after one more; it stands at its last value.
-fn next_count(count: u64) -> u64
-    ensures { result ≡ next_count count }
-{
-    count.saturating_add(1)
-}
 
 /// The refusal that an error is.
 fn refusal(error: &io::Error) -> Refusal

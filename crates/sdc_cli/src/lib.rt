@@ -9,11 +9,11 @@
 mod clock_groups;
 mod command_line;
 mod edges_report;
-mod exclusive_pairs;
 mod exit_numbers;
 mod fault_count;
 mod file_inputs;
 mod file_outputs;
+mod group_pairs;
 mod items;
 mod laws;
 mod merge_rows;

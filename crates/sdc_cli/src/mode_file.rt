@@ -4,8 +4,8 @@ ghost use Rattle.std.specs.Prelude.{◌≡◌, Ok, IfOk};
 ghost use Rattle.std.specs.Option.{option_copied, option_map};
 ghost use Rattle.sdc_base.specs.Gives.{Meets};
 ghost use Rattle.sdc_model.specs.ClockFile.{SaysModeAt, GivesKind, mode_of, does, does_named, create_clock, plain_clock, waved_clock, set_clock_groups, group_words, keep_for};
-ghost use Rattle.sdc_model.specs.EdgesText.{HaveTimes};
 ghost use Rattle.sdc_model.specs.Words.{is_text, only_text};
+ghost use Rattle.sdc_cli.specs.ModeBytes.{SaysAtMost, made_mode};
 
 use crate::mode_so_far::ModeSoFar;
 use crate::waveforms::wave_given;
@@ -14,10 +14,27 @@ use sdc_model::{Command, Kind, Mode, Part, SdcKind, Word};
 use std::alloc::Global;
 use tcl_words::split;
 
-/// The mode that the bytes of a file say, or its first fault.
-pub fn read_mode(alloc: Global, bytes: &[u8]) -> Result<Mode, Stop<At<Kind>>>
-    ensures says { Meets result (SaysModeAt bytes.now) }
-    ensures timed { IfOk result (λ mode. HaveTimes mode.clocks) }
+/// The mode that the bytes of a file say, or its first fault; `TooMany` where it has more clocks than `most`, with
+/// the line of the first clock beyond them. The clocks are counted before their exclusive pairs are made, which may
+/// be as many as their square.
+pub fn read_mode(alloc: Global, bytes: &[u8], most: usize) -> Result<Mode, Stop<At<Kind>>>
+    ensures { Meets result (SaysAtMost most bytes.now) }
+{
+    let made = read_clocks_and_groups(alloc, bytes)?;
+    let clocks = made.clocks();
+    if clocks.len() > most {
+        return Err(Stop::Refused(At {
+            line: clocks[most].line,
+            kind: Kind::Sdc(SdcKind::TooMany),
+        }));
+    }
+    let mode = made.into_mode(alloc)?;
+    Ok(mode)
+}
+
+/// What the commands of a file make, or the first fault of its bytes.
+fn read_clocks_and_groups(alloc: Global, bytes: &[u8]) -> Result<ModeSoFar, Stop<At<Kind>>>
+    ensures { Meets (made_mode result) (SaysModeAt bytes.now) }
 {
     let Ok(text) = str::from_utf8(bytes) else {
         return Err(Stop::Refused(out_of_profile(1)));
@@ -39,10 +56,9 @@ fn out_of_profile(line: u32) -> At<Kind>
     }
 }
 
-/// The mode of the commands of a file.
-fn read_commands(alloc: Global, commands: &[Command]) -> Result<Mode, Stop<At<Kind>>>
-    ensures gives { GivesKind result (mode_of (Ok commands.now)) }
-    ensures timed { IfOk result (λ mode. HaveTimes mode.clocks) }
+/// What the commands of a file make, or the fault of the first one that is not read here.
+fn read_commands(alloc: Global, commands: &[Command]) -> Result<ModeSoFar, Stop<At<Kind>>>
+    ensures { GivesKind (made_mode result) (mode_of (Ok commands.now)) }
 {
     let mut so_far = ModeSoFar::new(alloc);
     for command in commands {
@@ -51,8 +67,7 @@ fn read_commands(alloc: Global, commands: &[Command]) -> Result<Mode, Stop<At<Ki
         };
         so_far = next;
     }
-    let mode = so_far.into_mode(alloc)?;
-    Ok(mode)
+    Ok(so_far)
 }
 
 /// What was made so far and what a command makes, where it is one of those that are read here. The one error

@@ -8,7 +8,7 @@ ghost use Rattle.sdc_model.specs.PrintedFile.{ArePrintableClocks, ModesArePrinta
 
 use crate::mode_file::read_mode;
 use sdc_base::{Inputs, List, ReadStop, Stop, Text, read_all};
-use sdc_model::{CommandLine, Fault, Kind, Mode, SdcKind, Status};
+use sdc_model::{CommandLine, Fault, Kind, Mode, Status};
 use std::alloc::Global;
 
 /// The modes that the files of a command line say; or the status that names what stopped the reading.
@@ -93,17 +93,12 @@ fn read_file<I: Inputs>(
         Err(ReadStop::TooLong) => return Err(fault_at(place, 0, Kind::TooLong)),
         Err(ReadStop::NoMemory) => return Err(Status::NoMemory),
     };
-    let mode = match read_mode(alloc, bytes.as_slice()) {
-        Ok(mode) => mode,
-        Err(Stop::Refused(fault)) => return Err(fault_at(place, fault.line, fault.kind)),
-        Err(Stop::NoMemory) => return Err(Status::NoMemory),
-    };
     let left = most - count;
-    if mode.clocks.len() > left {
-        let line = mode.clocks.as_slice()[left].line;
-        return Err(fault_at(place, line, Kind::Sdc(SdcKind::TooMany)));
+    match read_mode(alloc, bytes.as_slice(), left) {
+        Ok(mode) => Ok(mode),
+        Err(Stop::Refused(fault)) => Err(fault_at(place, fault.line, fault.kind)),
+        Err(Stop::NoMemory) => Err(Status::NoMemory),
     }
-    Ok(mode)
 }
 
 /// The status of a fault of the file at a place of the words.

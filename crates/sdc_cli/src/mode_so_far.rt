@@ -1,14 +1,12 @@
 //! What the commands of a mode file made so far.
 
-ghost use Rattle.std.specs.Prelude.{◌≡◌, [], length, IfOk, IfSome};
+ghost use Rattle.std.specs.Prelude.{◌≡◌, [], IfOk};
 ghost use Rattle.std.specs.List.{list_all};
 ghost use Rattle.sdc_model.specs.Bytes.{is_name_byte};
 ghost use Rattle.sdc_model.specs.ClockFile.{with_clock, grouped, virtual_clock, clock_mode, is_name};
-ghost use Rattle.sdc_model.specs.EdgesText.{HaveTimes};
-ghost use Rattle.sdc_cli.specs.Waves.{HasEdges};
 
 use crate::clock_groups::{TwoGroups, group_of};
-use crate::exclusive_pairs::exclusive_pairs;
+use crate::group_pairs::pairs_of_groups;
 use crate::named_clocks::NamedClocks;
 use sdc_base::{Duplicate, List, NoMemory, Text};
 use sdc_model::{Clock, Early, Form, Latency, Mode, Wave, Word};
@@ -25,14 +23,13 @@ pub struct ModeSoFar {
 impl Model for ModeSoFar {
     ghost use Rattle.std.specs.Prelude.{length};
     ghost use Rattle.sdc_model.specs.ClockFile.{SoFar};
-    ghost use Rattle.sdc_model.specs.EdgesText.{HaveTimes};
     ghost use Rattle.sdc_cli.specs.Exclusive.{GroupsBelow};
 
     ghost Value = { SoFar };
 
     ghost view = { λ made. record { clocks = made.clocks; groups = made.groups } };
 
-    ghost invariant = { λ made. HaveTimes made.clocks × GroupsBelow (length made.clocks) made.groups };
+    ghost invariant = { λ made. GroupsBelow (length made.clocks) made.groups };
 }
 
 impl ModeSoFar {
@@ -55,7 +52,6 @@ impl ModeSoFar {
         name: &Text,
         wave: Option<Wave>,
     ) -> Result<Option<ModeSoFar>, NoMemory>
-        requires { IfSome wave HasEdges }
         ensures { IfOk result (λ next. next ≡ with_clock self line name.now wave) }
     {
         let ModeSoFar { clocks, groups } = self;
@@ -92,14 +88,20 @@ impl ModeSoFar {
         Ok(Some(ModeSoFar { clocks, groups }))
     }
 
+    /// The clocks so far, in order.
+    pub fn clocks(&self) -> &[Clock]
+        ensures { result.now ≡ self.now.clocks }
+    {
+        self.clocks.as_slice()
+    }
+
     /// The mode of these clocks and of the exclusive pairs of these groups alone. The one error is want of
     /// memory.
     pub fn into_mode(self, alloc: Global) -> Result<Mode, NoMemory>
-        ensures mode { IfOk result (λ mode. mode ≡ clock_mode self) }
-        ensures timed { IfOk result (λ mode. HaveTimes mode.clocks) }
+        ensures { IfOk result (λ mode. mode ≡ clock_mode self) }
     {
         let ModeSoFar { clocks, groups } = self;
-        let exclusive = exclusive_pairs(alloc, groups.as_slice())?;
+        let exclusive = pairs_of_groups(alloc, groups.as_slice())?;
         Ok(Mode {
             clocks: clocks.into_list(),
             exclusive,

@@ -72,6 +72,13 @@ impl NamedClocks {
         Ok(NamedClocks { clocks, places })
     }
 
+    /// The clocks in order.
+    pub fn as_slice(&self) -> &[Clock]
+        ensures { result.now ≡ self.now }
+    {
+        self.clocks.as_slice()
+    }
+
     /// The clocks as a list.
     pub fn into_list(self) -> List<Clock>
         ensures { result ≡ self }

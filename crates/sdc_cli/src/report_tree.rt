@@ -23,7 +23,7 @@ pub fn report_bytes(alloc: Global, report: &Report) -> Result<List<u8>, NoMemory
 
 /// A report as a JSON value, objects with their keys in the order of their bytes. The one error is want of
 /// memory.
-pub fn tree(alloc: Global, report: &Report) -> Result<Value, NoMemory>
+fn tree(alloc: Global, report: &Report) -> Result<Value, NoMemory>
     ensures value { IfOk result (λ value. view value ≡ tree_of report.now) }
     ensures no_float { IfOk result (λ value. has_float (view value) ≡ false) }
 {

@@ -5,7 +5,7 @@ ghost use Rattle.std.specs.Prelude.{◌≡◌, ◌≤◌, ◌<◌, ◌+◌, ◌^
 ghost use Rattle.std.specs.Option.{option_copied};
 ghost use Rattle.sdc_model.specs.ClockFile.{wave_given};
 ghost use Rattle.sdc_model.specs.Waveform.{plain_wave, period_of, time_from, limited_time, wave_within, waveform_of, moved_down};
-ghost use Rattle.sdc_cli.specs.Waves.{IsPeriod, HasEdges};
+ghost use Rattle.sdc_cli.specs.Waves.{IsPeriod};
 
 use crate::items::first_item;
 use sdc_base::Fixed;
@@ -23,8 +23,7 @@ const LONGEST_TIME: u64 = 1_000_000_000_000;
 /// The waveform of a period's text and of a waveform's text, where there is one; without a waveform a clock
 /// rises at 0 and falls at half its period, rounded down.
 pub fn wave_given(period: &str, waveform: Option<&str>) -> Option<Wave>
-    ensures wave { result ≡ wave_given period.now (option_copied waveform.entry) }
-    ensures edges { IfSome result HasEdges }
+    ensures { result ≡ wave_given period.now (option_copied waveform.entry) }
 {
     let period = period_of(period)?;
     match waveform {
@@ -71,8 +70,7 @@ fn limited_time(least: u64, time: i64) -> Option<u64>
 /// The waveform of a clock whose period alone is given.
 fn plain_wave(period: u64) -> Wave
     requires { IsPeriod period }
-    ensures wave { result ≡ plain_wave period }
-    ensures edges { HasEdges result }
+    ensures { result ≡ plain_wave period }
 {
     Wave {
         period: period as i64,
@@ -84,8 +82,7 @@ fn plain_wave(period: u64) -> Wave
 /// The waveform of a list of two times in nanoseconds, of the rise and of the fall.
 fn waveform_of(period: u64, text: &str) -> Option<Wave>
     requires { IsPeriod period }
-    ensures wave { result ≡ waveform_of period text.now }
-    ensures edges { IfSome result HasEdges }
+    ensures { result ≡ waveform_of period text.now }
 {
     let (rise, others) = first_item(text)?;
     let (fall, others) = first_item(others)?;
@@ -102,8 +99,7 @@ fn waveform_of(period: u64, text: &str) -> Option<Wave>
 fn wave_within(period: u64, rise: u64, fall: u64) -> Option<Wave>
     requires period { IsPeriod period }
     requires rise { rise ≤ 10 ^ 12 }
-    ensures wave { result ≡ wave_within period rise fall }
-    ensures edges { IfSome result HasEdges }
+    ensures { result ≡ wave_within period rise fall }
 {
     if rise < fall && fall < rise + period {
         Some(moved_down(period, rise, fall))
@@ -118,8 +114,7 @@ fn moved_down(period: u64, rise: u64, fall: u64) -> Wave
     requires rise { rise ≤ 10 ^ 12 }
     requires behind { rise < fall }
     requires before_next { fall < rise + period }
-    ensures wave { result ≡ moved_down period rise fall }
-    ensures edges { HasEdges result }
+    ensures { result ≡ moved_down period rise fall }
 {
     let first_rise = rise % period;
     let periods = rise - first_rise;

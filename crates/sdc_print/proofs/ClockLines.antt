@@ -2,6 +2,7 @@
 use Rattle.std.proofs.Common.{◌≡◌, ◌||◌, ℕ, pos, Bool, true, false, cond, List, [], ◌∷◌, ◌++◌, map, codes, Some, refl, sym, ◌∙◌, ap, subst, append_assoc, append-nil}
 use Rattle.std.proofs.lemmas.List.{map-append}
 use Rattle.std.specs.Option.{option_and_then}
+use Rattle.sdc_base.proofs.CaseFacts.{by_bool}
 use Rattle.sdc_base.specs.Time.{time_text_of}
 use Rattle.sdc_model.specs.declared.clocks.Clock.{Clock}
 use Rattle.sdc_model.specs.declared.clocks.Wave.{Wave}
@@ -15,7 +16,6 @@ use Rattle.sdc_model.specs.PlainViews.{without_line}
 use Rattle.sdc_model.specs.PrintedFile.{ArePrintableClocks, IsPrintableWave, clock_line, clock_lines, header_lines, lines_of_form, unit_text}
 use Rattle.sdc_model.specs.PrintedLine.{PrintedWord, bare, braced, is_bare_text, line_text, name_word, spaced}
 use Rattle.sdc_model.specs.Words.{is_text, same_text}
-use Rattle.sdc_print.proofs.RunFacts.{by_bool}
 use Rattle.sdc_print.proofs.WaveText.{ns, wave_text}
 
 -- from what was said so far, lines go to something of a kind, whatever comes behind them

@@ -2,6 +2,7 @@
 use Rattle.std.proofs.Common.{◌≡◌, ℕ, pos, Bool, true, cond, List, [], ◌∷◌, ◌++◌, length, codes, nat_lt, Some, Ok, refl, sym, ◌∙◌, ap, subst, inl, append-nil, lit<}
 use Rattle.std.proofs.lemmas.Bool.{and_parts, ltb-true}
 use Rattle.std.specs.List.{list_all}
+use Rattle.sdc_base.proofs.CaseFacts.{by_bool}
 use Rattle.sdc_base.specs.Time.{time_text_of}
 use Rattle.sdc_model.specs.declared.clocks.Clock.{Clock}
 use Rattle.sdc_model.specs.declared.clocks.Wave.{Wave}
@@ -15,7 +16,6 @@ use Rattle.sdc_model.specs.PrintedLine.{PrintedWord, bare, braced, is_bare_text,
 use Rattle.sdc_print.proofs.ClockLines.{Goes, line_of_form}
 use Rattle.sdc_print.proofs.CommandFacts.{lines_are_commands}
 use Rattle.sdc_print.proofs.FileText.{IsItem, all_pass, bare_spelled, braced_spelled, item_braced, items_braced, lines_are_text, spelled_append}
-use Rattle.sdc_print.proofs.RunFacts.{by_bool}
 use Rattle.sdc_print.proofs.WaveText.{WaveText, ns, wave_text}
 
 -- what lines go to is what their file says

@@ -1,5 +1,5 @@
 -- Runs of pairs with one first place.
-use Rattle.std.proofs.Common.{◌≡◌, ◌<◌, ◌≤◌, inl, inr, ℕ, Bool, List, [], ◌∷◌, suc, false, true, nat_eq, length, drop, take, get_or, arith, refl, sym, ap, ◌∙◌, subst}
+use Rattle.std.proofs.Common.{◌≡◌, ◌<◌, ◌≤◌, inl, inr, ℕ, List, [], ◌∷◌, suc, false, true, nat_eq, length, drop, take, get_or, arith, refl, sym, ap, ◌∙◌, subst}
 use Rattle.std.proofs.lemmas.Bool.{cases_eq}
 use Rattle.std.proofs.lemmas.Bool.Decides.{nat_tests}
 use Rattle.std.proofs.lemmas.List.{drop_all}
@@ -7,10 +7,6 @@ use Rattle.std.proofs.Math.Seq.{drop-cons}
 use Rattle.sdc_model.specs.declared.clocks.Pair.{Pair}
 use Rattle.sdc_model.specs.PrintedFile.{exclusive_to, ArePairs, IsBehind}
 use Rattle.sdc_print.specs.Runs.{run_length, seconds}
-
-pub by_bool : (P : Bool → Type 0) (b : Bool) → (b ≡ true → P true) → (b ≡ false → P false) → P b
-by_bool P true t f = t refl
-by_bool P false t f = f refl
 
 pub run_same : (place : ℕ) (pair : Pair) (pairs : List Pair) → pair.first ≡ place → run_length place (pair ∷ pairs) ≡ suc (run_length place pairs)
 unfolding run_length

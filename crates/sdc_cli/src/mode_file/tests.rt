@@ -67,10 +67,16 @@ fn show_mode(alloc: Global, mode: &Mode) -> Result<String, NoMemory> {
 fn show(alloc: Global, text: &str) -> Result<String, NoMemory> {
     let commands = commands_of(alloc, text)?;
     match read_commands(alloc, commands.as_slice()) {
-        Ok(mode) => show_mode(alloc, &mode),
+        Ok(made) => show_mode(alloc, &made.into_mode(alloc)?),
         Err(Stop::Refused(At { line, kind })) => Ok(format!(in alloc; "{kind:?} {line}")?),
         Err(Stop::NoMemory) => Err(NoMemory),
     }
+}
+
+/// The same of one clock of a period and a waveform.
+fn show_wave(alloc: Global, period: &str, waveform: &str) -> Result<String, NoMemory> {
+    let text = format!(in alloc; "create_clock|-name|a|-period|{period}|-waveform|{{{waveform}}}")?;
+    show(alloc, text.as_str())
 }
 
 #[test]
@@ -89,30 +95,41 @@ fn waveforms_of_clocks(rt: HostRuntime) -> Result<(), Fail> {
         ("10", "29 38", "a 10000000 9000000 18000000;"),
         ("10", "999995 1000000", "a 10000000 5000000 10000000;"),
         ("0.000002", "0.000003 0.000004", "a 2 1 2;"),
-        // the fall not behind the rise, or not before the next one
-        ("10", "0 0", "Sdc(OutOfProfile) 1"),
-        ("10", "5 5", "Sdc(OutOfProfile) 1"),
-        ("10", "5 4", "Sdc(OutOfProfile) 1"),
-        ("10", "0 10", "Sdc(OutOfProfile) 1"),
-        ("10", "2 12", "Sdc(OutOfProfile) 1"),
-        // times out of range
-        ("10", "-1 5", "Sdc(OutOfProfile) 1"),
-        ("10", "999999 1000000.000001", "Sdc(OutOfProfile) 1"),
-        // no two times
-        ("10", "", "Sdc(OutOfProfile) 1"),
-        ("10", "5", "Sdc(OutOfProfile) 1"),
-        ("10", "0 5 6", "Sdc(OutOfProfile) 1"),
-        ("10", "0 x", "Sdc(OutOfProfile) 1"),
-        ("10", "0 {5}", "Sdc(OutOfProfile) 1"),
     ] {
-        let text = format!(in rt.alloc();
-            "create_clock|-name|a|-period|{period}|-waveform|{{{waveform}}}"
-        )?;
-        let shown = show(rt.alloc(), text.as_str())?;
+        let shown = show_wave(rt.alloc(), period, waveform)?;
         assert_eq!(rt;
             shown.as_str(),
             wanted,
             "the waveform {waveform:?} of {period}"
+        );
+    }
+    Ok(())
+}
+
+#[test]
+fn waveforms_of_another_form(rt: HostRuntime) -> Result<(), Fail> {
+    for waveform in [
+        // the fall not behind the rise, or not before the next one
+        "0 0",
+        "5 5",
+        "5 4",
+        "0 10",
+        "2 12",
+        // times out of range
+        "-1 5",
+        "999999 1000000.000001",
+        // no two times
+        "",
+        "5",
+        "0 5 6",
+        "0 x",
+        "0 {5}",
+    ] {
+        let shown = show_wave(rt.alloc(), "10", waveform)?;
+        assert_eq!(rt;
+            shown.as_str(),
+            "Sdc(OutOfProfile) 1",
+            "the waveform {waveform:?}"
         );
     }
     Ok(())
@@ -132,37 +149,45 @@ fn clocks_of_files(rt: HostRuntime) -> Result<(), Fail> {
             "create_clock|-name|b|-period|2\ncreate_clock|-name|a|-period|{4}",
             "b 2000000 0 1000000;a 4000000 0 2000000;",
         ),
-        // periods out of range, and no periods
-        (
-            "create_clock|-name|a|-period|0.000001",
-            "Sdc(OutOfProfile) 1",
-        ),
-        (
-            "create_clock|-name|a|-period|1000000.000001",
-            "Sdc(OutOfProfile) 1",
-        ),
-        ("create_clock|-name|a|-period|-1", "Sdc(OutOfProfile) 1"),
-        ("create_clock|-name|a|-period|ten", "Sdc(OutOfProfile) 1"),
-        ("create_clock|-name|a|-period|[b]", "Sdc(OutOfProfile) 1"),
-        // names that are none, and a name twice
-        ("create_clock|-name|a.b|-period|10", "Sdc(OutOfProfile) 1"),
-        ("create_clock|-name|{}|-period|10", "Sdc(OutOfProfile) 1"),
-        (
-            "create_clock|-name|a|-period|10\ncreate_clock|-name|a|-period|20",
-            "Sdc(OutOfProfile) 2",
-        ),
-        // other arguments and commands
-        ("create_clock|-period|10|-name|a", "Sdc(OutOfProfile) 1"),
-        ("create_clock|-name|a|-period|10|x", "Sdc(OutOfProfile) 1"),
-        ("create_clock", "Sdc(OutOfProfile) 1"),
-        ("set|sdc_version|2.0", "Sdc(OutOfProfile) 1"),
-        ("set_units|-time|1ps", "Sdc(OutOfProfile) 1"),
-        ("set|sdc_version", "Sdc(OutOfProfile) 1"),
-        ("foo", "Sdc(OutOfProfile) 1"),
     ] {
         let shown = show(rt.alloc(), text)?;
         assert_eq!(rt; shown.as_str(), wanted, "the text {text:?}");
     }
+    Ok(())
+}
+
+#[test]
+fn commands_of_another_form(rt: HostRuntime) -> Result<(), Fail> {
+    for text in [
+        // periods out of range, and no periods
+        "create_clock|-name|a|-period|0.000001",
+        "create_clock|-name|a|-period|1000000.000001",
+        "create_clock|-name|a|-period|-1",
+        "create_clock|-name|a|-period|ten",
+        "create_clock|-name|a|-period|[b]",
+        // names that are none
+        "create_clock|-name|a.b|-period|10",
+        "create_clock|-name|{}|-period|10",
+        // other arguments and commands
+        "create_clock|-period|10|-name|a",
+        "create_clock|-name|a|-period|10|x",
+        "create_clock",
+        "set|sdc_version|2.0",
+        "set_units|-time|1ps",
+        "set|sdc_version",
+        "foo",
+    ] {
+        let shown = show(rt.alloc(), text)?;
+        assert_eq!(rt; shown.as_str(), "Sdc(OutOfProfile) 1", "the text {text:?}");
+    }
+    Ok(())
+}
+
+#[test]
+fn a_name_twice(rt: HostRuntime) -> Result<(), Fail> {
+    let text = "create_clock|-name|a|-period|10\ncreate_clock|-name|a|-period|20";
+    let shown = show(rt.alloc(), text)?;
+    assert_eq!(rt; shown.as_str(), "Sdc(OutOfProfile) 2");
     Ok(())
 }
 
@@ -264,7 +289,8 @@ fn many_clocks(rt: HostRuntime) -> Result<(), Fail> {
     commands.push(command_of(alloc, 3000, spelled)?)?;
     let read = read_commands(alloc, commands.as_slice());
     assert!(rt; read.is_ok(), "3,000 clocks are read");
-    if let Ok(mode) = read {
+    if let Ok(made) = read {
+        let mode = made.into_mode(alloc)?;
         assert_eq!(rt; mode.clocks.len(), 3000);
         assert_eq!(rt; mode.exclusive.len(), 2);
     }

@@ -1,4 +1,4 @@
-use Rattle.std.proofs.Common.{ℕ, Bool, Ok, Err, ◌&&◌, nat_le, sym, ◌∙◌, ap}
+use Rattle.std.proofs.Common.{Bool, Ok, Err, ◌&&◌, nat_le, sym, ◌∙◌, ap}
 use Rattle.std.proofs.lemmas.Bool.{le-leb}
 use Rattle.std.specs.declared.num.ParseIntError.{ParseIntError}
 use Rattle.sdc_cli.proofs.Budgets.{budget_is}

@@ -1,34 +1,20 @@
--- What is said of the commands of a text is said of the file whose bytes are that text.
-use Rattle.std.proofs.Common.{ℕ, List, Result, Ok, Err, inl, sym, ap}
-use Rattle.std.specs.Str.{IsUtf8}
+-- What is said of what the commands make is said of its mode, where the clocks are not too many.
+use Rattle.std.proofs.Common.{ℕ, List, Err, inl}
+use Rattle.std.proofs.lemmas.Result.{err_from_is_err_and}
 use Rattle.sdc_base.specs.Gives.{Meets}
 use Rattle.sdc_base.specs.declared.memory.At.{At}
 use Rattle.sdc_base.specs.declared.memory.Stop.{Stop}
 use Rattle.sdc_base.specs.declared.memory.Stop.TheVariants as stop
-use Rattle.sdc_model.specs.declared.commands.Command.{Command}
 use Rattle.sdc_model.specs.declared.kinds.Kind.{Kind}
-use Rattle.sdc_model.specs.declared.kinds.TclKind.{TclKind}
-use Rattle.sdc_model.specs.declared.modes.Mode.{Mode}
-use Rattle.sdc_model.specs.ClockFile.{SaysModeAt, GivesKind, mode_of}
-use Rattle.sdc_model.specs.Commands.{Splits}
+use Rattle.sdc_model.specs.ClockFile.{SaysModeAt}
+use Rattle.sdc_cli.specs.ModeBytes.{SaysAtMost, made_mode}
 use Rattle.sdc_cli.proofs.mode_file.read_mode.Goals as goal
 
-of_commands : (bytes : List ℕ) (split : Result (List Command) (At TclKind)) (answer : Result Mode (Stop (At Kind)))
-    → IsUtf8 bytes → Splits bytes split → GivesKind answer (mode_of split) → Meets answer (SaysModeAt bytes)
-of_commands bytes split (Ok mode) text splits gives = inl (text, (split, splits, sym gives))
-of_commands bytes split (Err (stop.Refused fault)) text splits gives = inl (text, (split, splits, sym gives))
-of_commands bytes split (Err stop.NoMemory) text splits gives = tt
+refused : (most : ℕ) (bytes : List ℕ) (stopped : Stop (At Kind)) → Meets (made_mode (Err stopped)) (SaysModeAt bytes) → Meets (Err stopped) (SaysAtMost most bytes)
+refused most bytes (stop.Refused fault) says = inl says
+refused most bytes stop.NoMemory says = tt
 
-pub returns-in-Ok-split-clause-says : goal.returns-in-Ok-split-clause-says
-returns-in-Ok-split-clause-says c =
-    let same = c.in-Ok.ensures.cases.0 in
-    let splits : Splits c.args.bytes.now (Ok c.in-Ok-split.commands) = rw (← same) c.in-Ok-split.ensures in
-    of_commands _ (Ok c.in-Ok-split.commands) _ c.in-Ok.ensures.cases.1 splits (rw c.as_slice.ensures at c.read_commands.ensures.gives)
-
-pub returns-in-Err-Refused-clause-says : goal.returns-in-Err-Refused-clause-says
-returns-in-Err-Refused-clause-says c =
-    let same = c.in-Ok.ensures.cases.0 in
-    let at_text = rw c.in-Err-Refused.field-0-is at c.in-Err-Refused.ensures in
-    let splits : Splits c.args.bytes.now (Err c.in-Err-Refused.fault) = rw (← same) at_text in
-    let fault_of : At Kind → Result Mode Kind = λ fault. Err fault.kind in
-    inl (c.in-Ok.ensures.cases.1, (Err c.in-Err-Refused.fault, splits, ap fault_of c.out_of_profile-in-Err-Refused.ensures))
+pub returns-in_err-made : goal.returns-in_err-made
+returns-in_err-made c =
+    let p = err_from_is_err_and c.from_residual.result c.from_residual.ensures.1 in
+    rw (p.1, p.2) (refused c.args.most c.args.bytes.now c.in_err-made.field-0.0 c.in_err-made.ensures)

@@ -1,14 +1,19 @@
-use Rattle.std.proofs.Common.{Err}
-use Rattle.sdc_model.specs.ClockFile.{SaysMode}
+use Rattle.std.proofs.Common.{Ok, Err}
+use Rattle.sdc_cli.specs.ModeBytes.{SaysAtMost}
 use Rattle.sdc_cli.proofs.SaidClocks.{said_is_printable}
-use Rattle.sdc_cli.proofs.ModeSteps.{told_fault}
+use Rattle.sdc_cli.proofs.ModeSteps.{told_mode, told_fault}
 use Rattle.sdc_cli.proofs.mode_files.read_file.Goals as goal
+
+pub returns-in-Ok-read_mode-clause-told : goal.returns-in-Ok-read_mode-clause-told
+returns-in-Ok-read_mode-clause-told g c =
+    let says : SaysAtMost _ c.in-Ok.bytes (Ok c.in-Ok-read_mode.mode) = rw c.as_slice.ensures at c.in-Ok-read_mode.ensures in
+    told_mode c.args.most c.args.count c.args.place _ _ c.in-Ok-read_mode.mode _ _ c.requires c.in-Ok.ensures.whole says
+
+pub returns-in-Ok-read_mode-clause-printable : goal.returns-in-Ok-read_mode-clause-printable
+returns-in-Ok-read_mode-clause-printable g c = said_is_printable c.in-Ok-read_mode.ensures.0
 
 pub returns-in-Err-Refused-clause-told : goal.returns-in-Err-Refused-clause-told
 returns-in-Err-Refused-clause-told g c =
-    let at_fault = rw c.in-Err-Refused.field-0-is at c.in-Err-Refused.ensures.says in
-    let says : SaysMode c.in-Ok.bytes (Err c.in-Err-Refused.fault.kind) = rw c.as_slice.ensures at at_fault in
-    rw c.fault_at-in-Err-Refused.ensures (told_fault _ _ _ c.in-Err-Refused.fault.line c.in-Err-Refused.fault.kind _ _ _ _ c.in-Ok.ensures.whole says)
-
-pub returns-clause-printable : goal.returns-clause-printable
-returns-clause-printable g c = said_is_printable c.in-Ok-read_mode.ensures.says
+    let at_fault = rw c.in-Err-Refused.field-0-is at c.in-Err-Refused.ensures in
+    let says : SaysAtMost _ c.in-Ok.bytes (Err c.in-Err-Refused.fault) = rw c.as_slice.ensures at at_fault in
+    rw c.fault_at-in-Err-Refused.ensures (told_fault _ _ _ _ _ c.in-Err-Refused.fault _ _ c.requires c.in-Ok.ensures.whole says)

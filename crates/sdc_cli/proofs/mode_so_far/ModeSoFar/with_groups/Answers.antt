@@ -9,4 +9,4 @@ invariant_of-result c =
     group_of-below c.self.inside.clocks c.args.first.now.parts c.in-Some.first (sym c.in_ok-first.ensures ∙ c.in-Some.is) in
     let second : AreBelow (length c.self.inside.clocks) c.in-Some-2.second =
     group_of-below c.self.inside.clocks c.args.second.now.parts c.in-Some-2.second (sym c.in_ok-second.ensures ∙ c.in-Some-2.is) in
-    (c.self.invariant.0, rw c.in_ok-push.ensures.ok (GroupsBelow-push (length c.self.inside.clocks) c.self.inside.groups _ c.self.invariant.1 first second))
+    rw c.in_ok-push.ensures.ok (GroupsBelow-push (length c.self.inside.clocks) c.self.inside.groups _ c.self.invariant first second)

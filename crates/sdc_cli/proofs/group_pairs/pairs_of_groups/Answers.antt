@@ -2,7 +2,7 @@ use Rattle.std.proofs.Common.{◌≡◌, take, arith, ◌∙◌, ap}
 use Rattle.std.proofs.lemmas.Grind.{common_steps}
 use Rattle.sdc_cli.specs.Exclusive.{parts_in}
 use Rattle.sdc_cli.proofs.ExclusiveSteps.{exclusive_answer}
-use Rattle.sdc_cli.proofs.exclusive_pairs.exclusive_pairs.Goals as goal
+use Rattle.sdc_cli.proofs.group_pairs.pairs_of_groups.Goals as goal
 
 pub returns : goal.returns
 returns c =

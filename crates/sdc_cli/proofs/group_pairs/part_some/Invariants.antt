@@ -1,6 +1,6 @@
 use Rattle.std.proofs.Common.{take}
 use Rattle.sdc_cli.specs.Exclusive.{HasMore, parts_some}
-use Rattle.sdc_cli.proofs.exclusive_pairs.part_some.Given as goal
+use Rattle.sdc_cli.proofs.group_pairs.part_some.Given as goal
 
 -- the pairs with the clocks so far are added
 abbrev pub invariant-loop-other : goal.invariant-loop-other

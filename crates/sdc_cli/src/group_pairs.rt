@@ -13,7 +13,7 @@ use std::collections::BTreeSet;
 
 /// The pairs of different clocks in the two groups of a command, the lesser place first, in order, each once.
 /// The one error is want of memory.
-pub fn exclusive_pairs(alloc: Global, groups: &[TwoGroups]) -> Result<List<Pair>, NoMemory>
+pub fn pairs_of_groups(alloc: Global, groups: &[TwoGroups]) -> Result<List<Pair>, NoMemory>
     ensures { IfOk result (λ pairs. (count : ℕ) → GroupsBelow count groups.now
         → pairs ≡ exclusive_pairs groups.now count) }
 {

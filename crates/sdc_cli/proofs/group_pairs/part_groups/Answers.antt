@@ -2,7 +2,7 @@ use Rattle.std.proofs.Common.{◌∙◌, ap}
 use Rattle.sdc_model.specs.ClockGroups.{Groups, is_among}
 use Rattle.sdc_cli.specs.Exclusive.{HasSame}
 use Rattle.sdc_cli.proofs.ExclusiveSteps.{HasMore-distinct}
-use Rattle.sdc_cli.proofs.exclusive_pairs.part_groups.Goals as goal
+use Rattle.sdc_cli.proofs.group_pairs.part_groups.Goals as goal
 
 pub returns : goal.returns
 returns c =

@@ -1,5 +1,5 @@
 use Rattle.sdc_cli.proofs.ExclusiveSteps.{HasMore-insert}
-use Rattle.sdc_cli.proofs.exclusive_pairs.part.Goals as goal
+use Rattle.sdc_cli.proofs.group_pairs.part.Goals as goal
 
 pub returns-in_ok-insert : goal.returns-in_ok-insert
 returns-in_ok-insert c =

@@ -1,7 +1,7 @@
 use Rattle.std.proofs.Common.{◌≡◌, take}
 use Rattle.sdc_model.specs.declared.clocks.Pair.{Pair}
 use Rattle.sdc_cli.specs.Exclusive.{has_pair, parts_in}
-use Rattle.sdc_cli.proofs.exclusive_pairs.exclusive_pairs.Given as goal
+use Rattle.sdc_cli.proofs.group_pairs.pairs_of_groups.Given as goal
 
 -- the pairs of the groups so far are added
 abbrev pub invariant-loop-two : goal.invariant-loop-two

@@ -1,5 +1,5 @@
 use Rattle.sdc_cli.proofs.DistinctPlaces.{HasSame-distinct}
-use Rattle.sdc_cli.proofs.exclusive_pairs.distinct.Goals as goal
+use Rattle.sdc_cli.proofs.group_pairs.distinct.Goals as goal
 
 pub returns : goal.returns
 returns c =
