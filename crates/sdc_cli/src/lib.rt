@@ -34,8 +34,8 @@ pub use exit_numbers::exit_number;
 pub use file_inputs::FileInputs;
 pub use file_outputs::FileOutputs;
 pub use laws::{
-    command_lines_have_one_answer, files_have_one_outcome, files_say_printable_modes, modes_have_one_merge,
-    modes_have_one_report,
+    command_lines_have_one_answer, files_have_one_outcome, files_say_printable_modes,
+    modes_have_one_merge, modes_have_one_report,
 };
 pub use sdc_model::Status;
 pub use tool::run;
