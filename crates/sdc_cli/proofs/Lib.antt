@@ -8,6 +8,7 @@ pub mod GroupPlaces
 pub mod GroupSteps
 pub mod ItemSteps
 pub mod MergedClocks
+pub mod MergedLengths
 pub mod MergedModes
 pub mod ModeSteps
 pub mod OneAnswer

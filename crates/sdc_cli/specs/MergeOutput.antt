@@ -34,6 +34,10 @@ pub record IsMergeOutput (files : List (List ℕ)) (modes : List Mode) (output :
   pub reads_back : SaysAgain merged.mode output.merged
   pub report : output.report ≡ report_bytes (Merge (report_of files modes merged.clocks))
 
+-- the text of a merge of modes has so many bytes
+abbrev pub IsMergedLength : List Mode → ℕ → Type 0
+IsMergedLength modes bytes = (merged : Merged) × IsMergeOf modes merged × (length (merged_text merged) ≡ bytes)
+
 pub record IsMergeTooLarge (modes : List Mode) (bytes : ℕ) : Type 0 where
   pub merged : Merged
   pub is_merge : IsMergeOf modes merged

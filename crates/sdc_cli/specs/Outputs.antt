@@ -1,20 +1,17 @@
 -- What a run of each command line writes, of the modes that its files say. This project's own.
 -- `edges` writes the reports of its files; `merge` writes the merged file and its report, or refuses a merged text that is too long.
-use Rattle.std.specs.Prelude.{◌≡◌, ◌+◌, ◌≤◌, ◌<◌, ℕ, List, [], length, Option, Some, None, Result, Ok, Err}
-use Rattle.sdc_base.specs.Counting.{Rose}
+use Rattle.std.specs.Prelude.{◌≡◌, ℕ, List, [], Result, Ok, Err}
 use Rattle.sdc_base.specs.Files.{Reading}
-use Rattle.sdc_base.specs.declared.whole.TheConstants.{MOST_BYTES}
 use Rattle.sdc_model.specs.declared.answers.Status.{Status}
 use Rattle.sdc_model.specs.declared.answers.Status.TheVariants as status
 use Rattle.sdc_model.specs.declared.command_lines.CommandLine.{CommandLine}
 use Rattle.sdc_model.specs.declared.command_lines.CommandLine.TheVariants.{Edges, Merge}
 use Rattle.sdc_model.specs.declared.command_lines.Output.{Output}
-use Rattle.sdc_model.specs.declared.merges.Merged.{Merged}
 use Rattle.sdc_model.specs.declared.modes.Mode.{Mode}
 use Rattle.sdc_model.specs.Answers.{LineModes, TooLargeFits}
 use Rattle.sdc_cli.specs.Steps.{ReadsModes, StopsReading}
 use Rattle.sdc_model.specs.EdgesText.{AreReports}
-use Rattle.sdc_cli.specs.MergeOutput.{IsMergeOutput, IsMergeTooLarge, SaysAgain, merged_text}
+use Rattle.sdc_cli.specs.MergeOutput.{IsMergeOutput, IsMergeTooLarge}
 
 -- what a run writes
 abbrev pub IsOutputOf : CommandLine → List Mode → Output → Type 0
@@ -25,14 +22,6 @@ IsOutputOf (Merge out files) modes output = IsMergeOutput files modes output
 abbrev pub IsTooLargeOf : CommandLine → List Mode → ℕ → Type 0
 IsTooLargeOf (Edges files) modes bytes = ⊥
 IsTooLargeOf (Merge out files) modes bytes = IsMergeTooLarge modes bytes
-
--- what making the merged text answers
-abbrev pub GivesText : Merged → Result (List ℕ) Status → Type 0
-GivesText merged (Ok text) =
-    (length (merged_text merged) ≤ MOST_BYTES) × (text ≡ merged_text merged) × SaysAgain merged.mode text
-GivesText merged (Err (status.TooLarge bytes)) = (length (merged_text merged) ≡ bytes) × (MOST_BYTES < bytes)
-GivesText merged (Err status.NoMemory) = Unit {0}
-GivesText merged (Err _) = ⊥
 
 -- what computing the output of a merge of these modes answers
 abbrev pub ComputesMerge : List (List ℕ) → List Mode → Result Output Status → Type 0

@@ -1,15 +1,17 @@
 //! The merge of modes of clocks and clock groups, over the empty design.
 
-ghost use Rattle.std.specs.Prelude.{◌≡◌, ◌++◌, ◌≤◌, ◌^◌, IfOk, IfErr, OnOk};
+ghost use Rattle.std.specs.Prelude.{◌≡◌, ◌+◌, ◌++◌, ◌≤◌, ◌^◌, length, IfOk, IfErr, OnOk};
 ghost use Rattle.sdc_base.specs.declared.memory.Stop.TheVariants as stop;
 ghost use Rattle.sdc_model.specs.MergedMode.{IsMergeOf};
 ghost use Rattle.sdc_model.specs.PlainViews.{own_wave, own_waves, view_of, views_of, clocks_in};
 ghost use Rattle.sdc_model.specs.PrintedFile.{IsOfClocks, ModesArePrintable};
-ghost use Rattle.sdc_cli.specs.MergeOutput.{empty_design};
+ghost use Rattle.sdc_print.specs.Runs.{groups_text};
+ghost use Rattle.sdc_cli.specs.MergeOutput.{empty_design, IsMergedLength};
 
-use clock_map::{exclusive_pairs, map_clocks};
+use clock_map::{ExclusiveRows, exclusive_pairs, map_clocks};
 use sdc_base::{Duplicate, List, NoMemory, Stop, Text};
 use sdc_model::{Arrivals, Clock, Design, Form, MergeStop, Merged, Mode, Pair, View, Wave};
+use sdc_print::{group_length, printed_length};
 use std::alloc::Global;
 
 /// Femtoseconds in a nanosecond, the unit of the empty design.
@@ -53,6 +55,46 @@ pub fn merge(
         listed: List::new(alloc),
         left: List::new(alloc),
     })
+}
+
+/// The number of bytes of the merged mode's printed file, over the empty design. Neither the file nor the exclusive
+/// pairs are made: of these there are at most those of one first clock at a time. The one error is want of memory.
+pub fn merged_length(alloc: Global, design: &Design, modes: &List<Mode>) -> Result<u64, NoMemory>
+    requires empty { design.now ≡ empty_design }
+    requires printable { ModesArePrintable modes.now }
+    requires few { clocks_in modes.now ≤ 16384 }
+    ensures { IfOk result (IsMergedLength modes.now) }
+{
+    let views = views_of(alloc, modes.as_slice())?;
+    let map = map_clocks(alloc, &views)?;
+    let count = map.clocks.len() as u32;
+    let rows = ExclusiveRows::new(alloc, &views, &map.maps, count)?;
+    let mode = clock_mode(alloc, map.clocks.copy(alloc)?, List::new(alloc));
+    let others = printed_length(alloc, design, &mode)?;
+    let groups = groups_length(alloc, &mode.clocks, &rows)?;
+    let bytes = sum(others, groups)?;
+    Ok(bytes)
+}
+
+/// The number of bytes of the lines of groups, by the pairs of each first clock.
+fn groups_length(alloc: Global, clocks: &List<Clock>, rows: &ExclusiveRows) -> Result<u64, NoMemory>
+    requires { length clocks.now ≤ 16384 }
+    ensures { IfOk result (λ bytes. bytes ≡ length (groups_text clocks.now rows.now)) }
+{
+    let mut bytes = 0;
+    for (first, clock) in clocks.as_slice().iter().enumerate() {
+        let mut pairs = List::new(alloc);
+        rows.push_row(alloc, &mut pairs, first as u32)?;
+        bytes = sum(bytes, group_length(clock, clocks, &pairs)?)?;
+    }
+    Ok(bytes)
+}
+
+/// The sum of two numbers of bytes. Where it passes 64 bits, no memory has so many.
+fn sum(first: u64, second: u64) -> Result<u64, NoMemory>
+    ensures { IfOk result (λ total. total ≡ first + second) }
+{
+    first.checked_add(second).ok_or(NoMemory)
 }
 
 /// Modes as an analysis over no pin sees them: each clock with its own waveform.

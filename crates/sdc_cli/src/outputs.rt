@@ -3,18 +3,17 @@
 ghost use Rattle.std.specs.Prelude.{◌≡◌, ◌≤◌, length};
 ghost use Rattle.sdc_model.specs.Answers.{files_of};
 ghost use Rattle.sdc_model.specs.PlainViews.{clocks_in};
-ghost use Rattle.sdc_model.specs.PrintedFile.{IsPrintable, ModesArePrintable};
-ghost use Rattle.sdc_cli.specs.Outputs.{Computes, ComputesMerge, GivesText};
-ghost use Rattle.sdc_cli.specs.MergeOutput.{empty_design};
+ghost use Rattle.sdc_model.specs.PrintedFile.{ModesArePrintable};
+ghost use Rattle.sdc_cli.specs.Outputs.{Computes, ComputesMerge};
 
 use crate::edges_report::report_text;
 use crate::merge_rows::report_of;
-use crate::merges::{empty, merge};
+use crate::merges::{empty, merge, merged_length};
 use crate::report_tree::report_bytes;
 use crate::reports::Report;
 use sdc_base::{List, MOST_BYTES, Text};
-use sdc_model::{CommandLine, Design, Merged, Mode, Output, Status};
-use sdc_print::{print, printed_length};
+use sdc_model::{CommandLine, Mode, Output, Status};
+use sdc_print::print;
 use std::alloc::Global;
 
 /// The budget of a command line that names none.
@@ -39,7 +38,8 @@ pub fn output_of(alloc: Global, line: &CommandLine, modes: &List<Mode>) -> Resul
     }
 }
 
-/// The merged file and the report of a merge of modes, whose files have these names.
+/// The merged file and the report of a merge of modes, whose files have these names; `TooLarge` before the merge is
+/// made, where the file has more than 268,435,456 bytes.
 fn merge_output(alloc: Global, files: &[Text], modes: &List<Mode>) -> Result<Output, Status>
     requires each { length modes.now ≡ length files.now }
     requires printable { ModesArePrintable modes.now }
@@ -47,30 +47,20 @@ fn merge_output(alloc: Global, files: &[Text], modes: &List<Mode>) -> Result<Out
     ensures { ComputesMerge files.now modes.now result }
 {
     let design = empty(alloc);
+    let bytes = merged_length(alloc, &design, modes)?;
+    if bytes > MOST_BYTES as u64 {
+        return Err(Status::TooLarge(bytes));
+    }
     let merged = match merge(alloc, &design, modes, BUDGET) {
         Ok(merged) => merged,
         // Over the empty design nothing else stops a merge.
         Err(_) => return Err(Status::NoMemory),
     };
-    let text = merged_text(alloc, &design, &merged)?;
+    let text = print(alloc, &design, &merged.mode)?;
     let rows = report_of(alloc, files, modes.as_slice(), &merged.clocks)?;
     let report = report_bytes(alloc, &Report::Merge(rows))?;
     Ok(Output {
         merged: text,
         report,
     })
-}
-
-/// The text of a merged mode over a design; `TooLarge` before it is made, where it has more than 268,435,456 bytes.
-fn merged_text(alloc: Global, design: &Design, merged: &Merged) -> Result<List<u8>, Status>
-    requires empty { design.now ≡ empty_design }
-    requires printable { IsPrintable design.now merged.now.mode }
-    ensures { GivesText merged.now result }
-{
-    let bytes = printed_length(alloc, design, &merged.mode)?;
-    if bytes > MOST_BYTES as u64 {
-        return Err(Status::TooLarge(bytes));
-    }
-    let text = print(alloc, design, &merged.mode)?;
-    Ok(text)
 }

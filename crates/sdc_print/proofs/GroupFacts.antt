@@ -1,5 +1,5 @@
 -- The names of the second clocks of pairs, and the lines of groups, one by one.
-use Rattle.std.proofs.Common.{◌≡◌, ◌<◌, ◌≤◌, ℕ, List, [], ◌∷◌, ◌++◌, zero, suc, length, drop, take, get_or, refl, sym, ap, ◌∙◌, slice_get, arith}
+use Rattle.std.proofs.Common.{◌≡◌, ◌<◌, ◌≤◌, ℕ, List, [], ◌∷◌, ◌++◌, zero, suc, length, drop, take, get_or, refl, sym, ap, ◌∙◌, slice_get, arith, min}
 use Rattle.std.proofs.lemmas.List.{append-nil}
 use Rattle.std.proofs.Math.Seq.{drop-cons}
 use Rattle.sdc_model.specs.declared.clocks.Clock.{Clock}
@@ -22,6 +22,10 @@ gap_above (suc k) h = refl
 pub gap_none : (k : ℕ) → k ≤ 0 → [] ≡ gap_text k
 gap_none zero h = refl
 gap_none (suc k) h = absurd (omega arith)
+
+pub gap_length : (k : ℕ) → length (gap_text k) ≡ min k 1
+gap_length zero = refl
+gap_length (suc k) = omega arith
 
 -- what is left of the names behind so many
 abbrev pub tail_text : ℕ → List (List ℕ) → List ℕ

@@ -1,11 +1,11 @@
 //! The lines of exclusive clocks.
 
-ghost use Rattle.std.specs.Prelude.{◌≡◌, ◌≤◌, OnOk, length, slice_get};
+ghost use Rattle.std.specs.Prelude.{◌≡◌, ◌≤◌, IfOk, OnOk, length, slice_get};
 ghost use Rattle.sdc_model.specs.PrintedFile.{name_of, ArePairs};
 ghost use Rattle.sdc_print.specs.Added.{added};
 ghost use Rattle.sdc_print.specs.Runs.{run_length, group_text, groups_text, second_names};
 
-use crate::sinks::Sink;
+use crate::sinks::{Sink, sum};
 use sdc_base::{List, NoMemory};
 use sdc_model::{Clock, Pair};
 
@@ -57,7 +57,41 @@ pub fn push_group(
 }
 
 /// Adds the names of the second clocks of pairs, with a blank between each two.
+#[tactic(auto, unfolding(crate::specs::Added::added))]
 fn push_second_names(out: &mut Sink, clocks: &List<Clock>, pairs: &[Pair]) -> Result<(), NoMemory>
+    ensures { OnOk result (out.new ≡ added out.old (second_names clocks.now pairs.now)) }
+{
+    match out {
+        Sink::Bytes(_) => write_second_names(out, clocks, pairs)?,
+        Sink::Count(count) => *count = sum(*count, second_names_length(clocks, pairs)?)?,
+    }
+    Ok(())
+}
+
+/// The number of bytes of these names with their blanks.
+fn second_names_length(clocks: &List<Clock>, pairs: &[Pair]) -> Result<u64, NoMemory>
+    ensures { IfOk result (λ bytes. bytes ≡ length (second_names clocks.now pairs.now)) }
+{
+    let mut bytes = 0;
+    for (place, pair) in pairs.iter().enumerate() {
+        let with_blank = sum(bytes, place.min(1) as u64)?;
+        bytes = sum(with_blank, clock_name_length(clocks, pair.second))?;
+    }
+    Ok(bytes)
+}
+
+/// The number of bytes of the name of the clock at a place.
+fn clock_name_length(clocks: &List<Clock>, place: u32) -> u64
+    ensures { result ≡ length (name_of (slice_get clocks.now place)) }
+{
+    match clocks.get(place as usize) {
+        Some(clock) => clock.name.as_bytes().len() as u64,
+        None => 0,
+    }
+}
+
+/// Adds the names one by one.
+fn write_second_names(out: &mut Sink, clocks: &List<Clock>, pairs: &[Pair]) -> Result<(), NoMemory>
     ensures { OnOk result (out.new ≡ added out.old (second_names clocks.now pairs.now)) }
 {
     for (place, pair) in pairs.iter().enumerate() {

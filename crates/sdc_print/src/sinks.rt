@@ -30,7 +30,7 @@ impl Sink {
 }
 
 /// The sum of two counts.
-fn sum(first: u64, second: u64) -> Result<u64, NoMemory>
+pub fn sum(first: u64, second: u64) -> Result<u64, NoMemory>
     ensures { IfOk result (λ total. total ≡ first + second) }
 {
     first.checked_add(second).ok_or(NoMemory)

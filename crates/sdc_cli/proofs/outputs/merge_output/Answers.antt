@@ -1,19 +1,44 @@
-use Rattle.std.proofs.Common.{inr, refl}
-use Rattle.sdc_base.specs.Time.{IsUnit}
-use Rattle.sdc_model.specs.declared.designs.Design.{Design}
+-- The bytes that were counted are those of the merge that is printed, since modes have one merge.
+use Rattle.std.proofs.Common.{◌≡◌, ◌≤◌, ◌∙◌, length, refl, sym, ap, arith, rules}
+use Rattle.sdc_base.specs.declared.whole.TheConstants.{MOST_BYTES}
+use Rattle.sdc_model.specs.declared.merges.Merged.{Merged}
 use Rattle.sdc_model.specs.PrintedFile.{IsPrintable}
-use Rattle.sdc_cli.specs.MergeOutput.{empty_design}
+use Rattle.sdc_print.proofs.FileReads.{reads_back}
+use Rattle.sdc_cli.specs.MergeOutput.{ReadsBack, empty_design, merged_text}
 use Rattle.sdc_cli.proofs.MergedClocks.{merge_is_printable}
+use Rattle.sdc_cli.proofs.MergedLengths.{nanoseconds}
 use Rattle.sdc_cli.proofs.MergedModes.{maps_are_numbered}
+use Rattle.sdc_cli.proofs.OneMerge.{merge_once}
 use Rattle.sdc_cli.proofs.outputs.merge_output.Goals as goal
 
-nanoseconds : IsUnit empty_design.unit
-nanoseconds = inr (inr (inr refl))
+pub returns-then-bytes : goal.returns-then-bytes
+returns-then-bytes c =
+    let counted = c.in_ok-bytes.ensures in
+    record { merged = counted.0; is_merge = counted.1; count = counted.2; long = omega (arith, c.if-bytes.true) }
 
-pub merged_text-requires-clause-printable : goal.merged_text-requires-clause-printable
-merged_text-requires-clause-printable c =
+pub print-requires : goal.print-requires
+print-requires c =
     let printable : IsPrintable empty_design c.in-Ok.merged.mode = merge_is_printable nanoseconds c.requires.printable c.in-Ok.ensures.merged in
     rw c.empty-design.ensures printable
 
 pub report_of-requires-clause-maps : goal.report_of-requires-clause-maps
 report_of-requires-clause-maps c = rw c.as_slice.ensures (maps_are_numbered c.args.modes.now c.in-Ok.merged.clocks c.in-Ok.ensures.merged.identity)
+
+pub returns : goal.returns
+returns c =
+    let merged = c.in-Ok.merged in
+    let is = c.in-Ok.ensures.merged in
+    let counted = c.in_ok-bytes.ensures in
+    let printable : IsPrintable empty_design merged.mode = merge_is_printable nanoseconds c.requires.printable is in
+    let same : counted.0 ≡ merged = merge_once c.args.modes.now c.requires.printable counted.0 merged counted.1 is in
+    let count : length (merged_text merged) ≡ c.in_ok-bytes.bytes = ap (λ (m : Merged). length (merged_text m)) (sym same) ∙ counted.2 in
+    let text : c.in_ok-text.text ≡ merged_text merged = rw c.empty-design.ensures at c.in_ok-text.ensures in
+    let back : ReadsBack merged.mode c.in_ok-text.text = rw text (reads_back empty_design merged.mode printable refl) in
+    record {
+      merged = merged;
+      is_merge = is;
+      short = omega (arith, count, c.if-bytes.false);
+      text = text;
+      reads_back = back;
+      report = search rules;
+    }

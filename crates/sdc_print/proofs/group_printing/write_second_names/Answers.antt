@@ -5,8 +5,8 @@ use Rattle.sdc_print.specs.Added.{added}
 use Rattle.sdc_print.specs.Runs.{seconds}
 use Rattle.sdc_print.proofs.AddedFacts.{added_added, added_none, goes_on, ends}
 use Rattle.sdc_print.proofs.GroupFacts.{gap_text, tail_text, tail_text_all, tail_step, gap_above, gap_none}
-use Rattle.sdc_print.proofs.group_printing.push_second_names.Goals as goal
-use Rattle.sdc_print.proofs.group_printing.push_second_names.Goals.{then-place-gt0+in_ok-push, else-place-gt0}
+use Rattle.sdc_print.proofs.group_printing.write_second_names.Goals as goal
+use Rattle.sdc_print.proofs.group_printing.write_second_names.Goals.{then-place-gt0+in_ok-push, else-place-gt0}
 
 pub loop-place-preserved : goal.loop-place-preserved
 loop-place-preserved c =

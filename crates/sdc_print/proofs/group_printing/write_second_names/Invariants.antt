@@ -3,7 +3,7 @@ use Rattle.sdc_model.specs.PrintedFile.{names_at}
 use Rattle.sdc_print.specs.Added.{added}
 use Rattle.sdc_print.specs.Runs.{seconds}
 use Rattle.sdc_print.proofs.GroupFacts.{tail_text}
-use Rattle.sdc_print.proofs.group_printing.push_second_names.Given as goal
+use Rattle.sdc_print.proofs.group_printing.write_second_names.Given as goal
 
 abbrev pub invariant-loop-place : goal.invariant-loop-place
 invariant-loop-place l =
