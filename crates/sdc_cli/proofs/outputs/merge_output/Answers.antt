@@ -4,7 +4,7 @@ use Rattle.sdc_base.specs.declared.whole.TheConstants.{MOST_BYTES}
 use Rattle.sdc_model.specs.declared.merges.Merged.{Merged}
 use Rattle.sdc_model.specs.PrintedFile.{IsPrintable}
 use Rattle.sdc_print.proofs.FileReads.{reads_back}
-use Rattle.sdc_cli.specs.MergeOutput.{ReadsBack, empty_design, merged_text}
+use Rattle.sdc_cli.specs.MergeOutput.{SaysAgain, empty_design, merged_text}
 use Rattle.sdc_cli.proofs.MergedClocks.{merge_is_printable}
 use Rattle.sdc_cli.proofs.MergedLengths.{nanoseconds}
 use Rattle.sdc_cli.proofs.MergedModes.{maps_are_numbered}
@@ -33,7 +33,7 @@ returns c =
     let same : counted.0 ≡ merged = merge_once c.args.modes.now c.requires.printable counted.0 merged counted.1 is in
     let count : length (merged_text merged) ≡ c.in_ok-bytes.bytes = ap (λ (m : Merged). length (merged_text m)) (sym same) ∙ counted.2 in
     let text : c.in_ok-text.text ≡ merged_text merged = rw c.empty-design.ensures at c.in_ok-text.ensures in
-    let back : ReadsBack merged.mode c.in_ok-text.text = rw text (reads_back empty_design merged.mode printable refl) in
+    let back : SaysAgain merged.mode c.in_ok-text.text = rw text (reads_back empty_design merged.mode printable refl) in
     record {
       merged = merged;
       is_merge = is;
