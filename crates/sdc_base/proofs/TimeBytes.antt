@@ -15,7 +15,7 @@ use Rattle.std.specs.Int.RustNames.{unsigned_abs}
 use Rattle.std.specs.Str.{IsAscii, IsUtf8}
 use mir.Val.{SFits}
 use Rattle.sdc_base.specs.Time.{IsUnit, minus_text, places, decimals_text, time_text_of}
-use Rattle.sdc_base.proofs.DigitFacts.{by_bool}
+use Rattle.sdc_base.proofs.CaseFacts.{by_bool}
 use Rattle.sdc_base.proofs.PlaceFacts.{places_more, places_none, places_zero, digit_below}
 use Rattle.sdc_base.proofs.ReadBackFacts.{by_unit}
 
