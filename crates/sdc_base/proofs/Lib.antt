@@ -5,6 +5,7 @@ pub mod PlaceFacts
 pub mod ReadBackFacts
 pub mod ReadFacts
 pub mod SpellingFacts
+pub mod TimeBytes
 pub mod TimeFacts
 pub mod WholeReads
 pub mod WholeWrites

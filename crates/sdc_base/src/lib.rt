@@ -2,7 +2,7 @@
 //!
 //! It gives the layer above: the two errors of memory (`NoMemory`, `Stop`), text and lists that contracts
 //! see as lists (`Text`, `List`), copies that equal their original (`Duplicate`), exact decimal numbers and
-//! times (`Fixed`, `time_text`), and the outside as two traits (`Inputs`, `Outputs`) with four forms in
+//! times (`Fixed`, `time_text`, `TimeBuffer`), and the outside as two traits (`Inputs`, `Outputs`) with four forms in
 //! memory and whole reads and writes over them. It leaves what a file holds to the crates above.
 #![tactic(auto)]
 
@@ -37,5 +37,5 @@ pub use memory_forms::{MemInputs, MemOutputs, SureInputs, SureOutputs};
 pub use number_laws::{reading_is_exact, time_texts_read_back, times_are_nearest};
 pub use outside::{Channel, Inputs, NamedBytes, Outputs, Refusal};
 pub use texts::Text;
-pub use times::time_text;
+pub use times::{TimeBuffer, time_text};
 pub use whole::{MOST_BYTES, ReadStop, read_all, write_all};

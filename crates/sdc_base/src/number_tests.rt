@@ -2,7 +2,7 @@
 use crate::fixed::{Fixed, NumberError};
 use crate::memory::NoMemory;
 use crate::texts::Text;
-use crate::times::time_text;
+use crate::times::{TimeBuffer, time_text};
 use std::alloc::Global;
 
 const READ: [(&str, i128, bool); 40] = [
@@ -190,6 +190,15 @@ fn text_in(alloc: Global, fs: i64, picoseconds: u32) -> Result<Text, NoMemory> {
     }
 }
 
+fn bytes_in(buffer: &mut TimeBuffer, fs: i64, picoseconds: u32) -> &[u8] {
+    match picoseconds {
+        10 => buffer.format(fs, 10_000),
+        100 => buffer.format(fs, 100_000),
+        1000 => buffer.format(fs, 1_000_000),
+        _ => buffer.format(fs, 1_000),
+    }
+}
+
 #[test]
 fn texts_of_numbers(rt: HostRuntime) {
     for (text, scaled, whole) in READ {
@@ -237,5 +246,14 @@ fn texts_of_times(rt: HostRuntime) {
         if let Ok(text) = text {
             assert_eq!(rt; text.as_str(), want, "{fs} fs in units of {unit} ps");
         }
+    }
+}
+
+#[test]
+fn bytes_of_times_in_one_buffer(rt: HostRuntime) {
+    let mut buffer = TimeBuffer::new();
+    for (fs, unit, want) in TEXTS {
+        let bytes = bytes_in(&mut buffer, fs, unit);
+        assert!(rt; bytes == want.as_bytes(), "{fs} fs in units of {unit} ps");
     }
 }

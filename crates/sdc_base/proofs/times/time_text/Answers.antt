@@ -1,14 +1,14 @@
-use Rattle.std.proofs.Common.{rules}
+use Rattle.std.proofs.Common.{sym, subst, rules}
 use Rattle.std.proofs.lemmas.Int.{to_z-of_z}
 use Rattle.std.specs.Int.{w64}
+use Rattle.std.specs.Str.{IsUtf8}
 use mir.Val.{SFits}
-use Rattle.sdc_base.proofs.PlaceFacts.{time_text_is}
+use Rattle.sdc_base.proofs.TimeBytes.{IsUtf8-time_text, magnitude_fits}
 use Rattle.sdc_base.proofs.times.time_text.Goals as goal
 
-pub returns : goal.returns
-returns c =
+pub unreachable-requires : goal.unreachable-requires
+unreachable-requires c =
     let f : SFits w64 c.args.fs = search rules in
     let g : SFits w64 c.args.unit = search rules in
-    time_text_is c.args.fs c.args.unit _ _ _ _ _ (simp to_z-of_z at c.unsigned_abs-magnitude.ensures.value)
-    (simp to_z-of_z at c.unsigned_abs-unit.ensures.value) (simp to_z-of_z at c.in_ok-text.ensures)
-    c.in_ok-push_decimals.ensures c.from.ensures
+    c.in-Err.ensures.cases.0
+    (subst IsUtf8 (sym (simp to_z-of_z at c.format.ensures)) (IsUtf8-time_text c.args.fs c.args.unit c.requires (magnitude_fits c.args.fs f)))
