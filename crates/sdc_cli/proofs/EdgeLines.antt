@@ -1,12 +1,13 @@
 -- Edges of clocks with times, and lines of a report that are joined at their end.
 use Rattle.std.proofs.Math.Seq.{drop-cons}
-use Rattle.std.proofs.Common.{◌≡◌, ◌+◌, ◌<◌, suc, add-one, length, get_or, drop, ℕ, List, [], ◌∷◌, ◌++◌, refl, sym, ◌∙◌, ap, append_assoc, append-nil, subst}
+use Rattle.std.proofs.Common.{◌≡◌, ◌+◌, ◌<◌, suc, add-one, length, get_or, drop, ℕ, List, [], ◌∷◌, ◌++◌, refl, sym, ◌∙◌, ap, append_assoc, append-nil, subst, codes}
 use Rattle.sdc_model.specs.declared.clocks.Clock.{Clock}
 use Rattle.sdc_model.specs.declared.edge_times.Relation.{Relation}
 use Rattle.sdc_model.specs.declared.edge_times.TimedEdge.{TimedEdge}
 use Rattle.sdc_model.specs.declared.modes.Mode.{Mode}
 use Rattle.sdc_model.specs.Relation.{IsRelation}
-use Rattle.sdc_model.specs.EdgesText.{clock_edges, edges_of, AreTimed, HaveTimes, ModesHaveTimes, Appends, AreLinesFrom, AreLines, AreReports, IsReport, edge_line}
+use Rattle.sdc_model.specs.EdgesText.{clock_edges, edges_of, AreTimed, HaveTimes, ModesHaveTimes, Appends, AreLinesFrom, AreLines, AreReports, IsReport, edge_line, edge_text, relation_text}
+use Rattle.sdc_cli.specs.LineParts.{front_text, line_rest}
 
 pub AreTimed-append : (es fs : List TimedEdge) → AreTimed es → AreTimed fs → AreTimed (es ++ fs)
 AreTimed-append [] fs timed others = others
@@ -80,3 +81,29 @@ Reports-more files modes i file mode All text new at at_mode before appends rest
     let here : Q (drop i modes) = subst Q (sym at_mode) (appends.0, rest, appends.1, refl, reports) in
     let found = before _ (subst P (sym at) here) in
     (found.0, found.1, found.2 ∙ (sym (append_assoc text appends.0 rest) ∙ ap (λ t. t ++ rest) (sym appends.2)))
+
+regroup : (file colon launch arrow capture rest : List ℕ)
+    → (file ++ (colon ++ (launch ++ arrow))) ++ (capture ++ rest) ≡ file ++ (colon ++ ((launch ++ (arrow ++ capture)) ++ rest))
+regroup file colon launch arrow capture rest = simp append_assoc
+
+-- a line that was appended in its two parts
+line_appended : (file front text new : List ℕ) (launch capture : TimedEdge) (relation : Relation)
+    → front ≡ front_text file launch
+    → new ≡ text ++ (front ++ line_rest capture relation)
+    → new ≡ text ++ edge_line file launch capture relation
+line_appended file front text new launch capture relation is e =
+    e ∙ ap (λ f. text ++ (f ++ line_rest capture relation)) is
+    ∙ ap (λ l. text ++ l) (regroup file (codes ": ") (edge_text launch) (codes " -> ") (edge_text capture) (relation_text relation ++ codes "\n"))
+
+-- one more line of a launch edge, appended in its two parts
+pub LinesFrom-more_parts : (file front : List ℕ) (launch capture : TimedEdge) (captures : List TimedEdge) (i : ℕ) (All : List ℕ → Type 0)
+    (old text new : List ℕ) (relation : Relation)
+    → drop i captures ≡ capture ∷ drop (i + 1) captures
+    → ((rest : List ℕ) → AreLinesFrom file launch (drop i captures) rest → (lines : List ℕ) × All lines × (old ++ lines ≡ text ++ rest))
+    → IsRelation launch.time launch.period capture.time capture.period relation
+    → front ≡ front_text file launch
+    → new ≡ text ++ (front ++ line_rest capture relation)
+    → (rest : List ℕ) → AreLinesFrom file launch (drop (i + 1) captures) rest
+    → (lines : List ℕ) × All lines × (old ++ lines ≡ new ++ rest)
+LinesFrom-more_parts file front launch capture captures i All old text new relation at before is fronts e =
+    LinesFrom-more file launch capture captures i All old text new relation at before is (line_appended file front text new launch capture relation fronts e)

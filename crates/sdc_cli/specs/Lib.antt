@@ -1,6 +1,7 @@
 pub mod Exclusive
 pub mod ExitNumbers
 pub mod Laws
+pub mod LineParts
 pub mod MergeOutput
 pub mod MergeRows
 pub mod Outputs

@@ -1,11 +1,12 @@
 //! The report of `edges`: a line for each launch edge and each capture edge of a file's clocks.
 
 ghost use Rattle.std.specs.Prelude.{◌≡◌, ◌++◌, ◌∷◌, [], ℕ, List, length, IfOk, OnOk};
-ghost use Rattle.sdc_model.specs.EdgesText.{Appends, AreReports, IsReport, AreLines, AreLinesFrom, edge_line, edge_text, edges_text, relation_text, edge_word, clock_edges, edges_of, nanoseconds_text, IsTimed, AreTimed, HaveTimes, ModesHaveTimes};
+ghost use Rattle.sdc_model.specs.EdgesText.{Appends, AreReports, IsReport, AreLines, AreLinesFrom, edge_text, relation_text, edge_word, clock_edges, edges_of, nanoseconds_text, IsTimed, AreTimed, HaveTimes, ModesHaveTimes};
 ghost use Rattle.sdc_model.specs.Relation.{IsRelation};
+ghost use Rattle.sdc_cli.specs.LineParts.{front_text, line_rest};
 
 use clock_tree::relation;
-use sdc_base::{Duplicate, List, NoMemory, Text, time_text};
+use sdc_base::{Duplicate, List, NoMemory, Text, TimeBuffer};
 use sdc_model::{Clock, Edge, Form, Mode, Relation, TimedEdge};
 use std::alloc::Global;
 
@@ -70,17 +71,28 @@ fn append_lines_from(
     ensures { OnOk result
         (Appends (AreLinesFrom file.now launch.now captures.now) text.old.items text.new.items) }
 {
+    let front = line_front(alloc, file, launch)?;
     for capture in captures {
         append_line(
-            alloc,
             text,
-            file,
-            launch,
+            front.as_slice(),
             capture,
             relation_of(launch, capture),
         )?;
     }
     Ok(())
+}
+
+/// What all lines of a launch edge begin with.
+fn line_front(alloc: Global, file: &str, launch: &TimedEdge) -> Result<Vec<u8>, NoMemory>
+    ensures { IfOk result (λ front. front.items ≡ front_text file.now launch.now) }
+{
+    let mut front = Vec::new(alloc);
+    front.extend_from_slice(file.as_bytes())?;
+    front.extend_from_slice(b": ")?;
+    append_edge(&mut front, launch)?;
+    front.extend_from_slice(b" -> ")?;
+    Ok(front)
 }
 
 /// The relation of two edges.
@@ -92,44 +104,31 @@ fn relation_of(launch: &TimedEdge, capture: &TimedEdge) -> Relation
     relation(launch.time, launch.period, capture.time, capture.period)
 }
 
-/// Appends the line of two edges and their relation.
+/// Appends the line with this front, of a capture edge and the relation to it.
 fn append_line(
-    alloc: Global,
     text: &mut Vec<u8>,
-    file: &str,
-    launch: &TimedEdge,
+    front: &[u8],
     capture: &TimedEdge,
     relation: Relation,
 ) -> Result<(), NoMemory>
     ensures { OnOk result (text.new.items
-        ≡ text.old.items ++ edge_line file.now launch.now capture.now relation) }
+        ≡ text.old.items ++ (front.now ++ line_rest capture.now relation)) }
 {
-    text.extend_from_slice(file.as_bytes())?;
-    text.extend_from_slice(b": ")?;
-    append_edges(text, launch, capture)?;
-    append_relation(alloc, text, relation)?;
+    text.extend_from_slice(front)?;
+    append_edge(text, capture)?;
+    append_relation(text, relation)?;
     text.extend_from_slice(b"\n")?;
     Ok(())
 }
 
-/// Appends two edges with an arrow between them.
-fn append_edges(text: &mut Vec<u8>, launch: &TimedEdge, capture: &TimedEdge) -> Result<(), NoMemory>
-    ensures { OnOk result (text.new.items ≡ text.old.items ++ edges_text launch.now capture.now) }
-{
-    append_edge(text, launch)?;
-    text.extend_from_slice(b" -> ")?;
-    append_edge(text, capture)?;
-    Ok(())
-}
-
 /// Appends a relation in nanoseconds.
-fn append_relation(alloc: Global, text: &mut Vec<u8>, relation: Relation) -> Result<(), NoMemory>
+fn append_relation(text: &mut Vec<u8>, relation: Relation) -> Result<(), NoMemory>
     ensures { OnOk result (text.new.items ≡ text.old.items ++ relation_text relation) }
 {
     text.extend_from_slice(b" setup ")?;
-    append_time(alloc, text, relation.setup)?;
+    append_time(text, relation.setup)?;
     text.extend_from_slice(b" hold ")?;
-    append_time(alloc, text, relation.hold)?;
+    append_time(text, relation.hold)?;
     Ok(())
 }
 
@@ -146,11 +145,11 @@ fn append_edge(text: &mut Vec<u8>, edge: &TimedEdge) -> Result<(), NoMemory>
 }
 
 /// Appends a time in nanoseconds.
-fn append_time(alloc: Global, text: &mut Vec<u8>, time: i64) -> Result<(), NoMemory>
+fn append_time(text: &mut Vec<u8>, time: i64) -> Result<(), NoMemory>
     ensures { OnOk result (text.new.items ≡ text.old.items ++ nanoseconds_text time) }
 {
-    let number = time_text(alloc, time, NANOSECOND)?;
-    text.extend_from_slice(number.as_bytes())?;
+    let mut buffer = TimeBuffer::new();
+    text.extend_from_slice(buffer.format(time, NANOSECOND))?;
     Ok(())
 }
 
