@@ -79,10 +79,23 @@ regroup : (file colon launch arrow capture rest : List ℕ)
 regroup file colon launch arrow capture rest = simp append_assoc
 
 -- a line that was appended in its two parts
-pub line_appended : (file front text new : List ℕ) (launch capture : TimedEdge) (relation : Relation)
+line_appended : (file front text new : List ℕ) (launch capture : TimedEdge) (relation : Relation)
     → front ≡ front_text file launch
     → new ≡ text ++ (front ++ line_rest capture relation)
     → new ≡ text ++ edge_line file launch capture relation
 line_appended file front text new launch capture relation is e =
     e ∙ ap (λ f. text ++ (f ++ line_rest capture relation)) is
     ∙ ap (λ l. text ++ l) (regroup file (codes ": ") (edge_text launch) (codes " -> ") (edge_text capture) (relation_text relation ++ codes "\n"))
+
+-- one more line of a launch edge, appended in its two parts
+pub LinesFrom-more_parts : (file front : List ℕ) (launch capture : TimedEdge) (captures : List TimedEdge) (i : ℕ) (All : List ℕ → Type 0)
+    (old text new : List ℕ) (relation : Relation)
+    → drop i captures ≡ capture ∷ drop (i + 1) captures
+    → ((rest : List ℕ) → AreLinesFrom file launch (drop i captures) rest → (lines : List ℕ) × All lines × (old ++ lines ≡ text ++ rest))
+    → IsRelation launch.time launch.period capture.time capture.period relation
+    → front ≡ front_text file launch
+    → new ≡ text ++ (front ++ line_rest capture relation)
+    → (rest : List ℕ) → AreLinesFrom file launch (drop (i + 1) captures) rest
+    → (lines : List ℕ) × All lines × (old ++ lines ≡ new ++ rest)
+LinesFrom-more_parts file front launch capture captures i All old text new relation at before is fronts e =
+    LinesFrom-more file launch capture captures i All old text new relation at before is (line_appended file front text new launch capture relation fronts e)

@@ -6,7 +6,7 @@ ghost use Rattle.sdc_model.specs.Relation.{IsRelation};
 ghost use Rattle.sdc_cli.specs.LineParts.{front_text, line_rest};
 
 use clock_tree::relation;
-use sdc_base::{Duplicate, List, NoMemory, Text, time_text};
+use sdc_base::{Duplicate, List, NoMemory, Text, TimeBuffer};
 use sdc_model::{Clock, Edge, Form, Mode, Relation, TimedEdge};
 use std::alloc::Global;
 
@@ -74,7 +74,6 @@ fn append_lines_from(
     let front = line_front(alloc, file, launch)?;
     for capture in captures {
         append_line(
-            alloc,
             text,
             front.as_slice(),
             capture,
@@ -107,7 +106,6 @@ fn relation_of(launch: &TimedEdge, capture: &TimedEdge) -> Relation
 
 /// Appends the line with this front, of a capture edge and the relation to it.
 fn append_line(
-    alloc: Global,
     text: &mut Vec<u8>,
     front: &[u8],
     capture: &TimedEdge,
@@ -118,19 +116,19 @@ fn append_line(
 {
     text.extend_from_slice(front)?;
     append_edge(text, capture)?;
-    append_relation(alloc, text, relation)?;
+    append_relation(text, relation)?;
     text.extend_from_slice(b"\n")?;
     Ok(())
 }
 
 /// Appends a relation in nanoseconds.
-fn append_relation(alloc: Global, text: &mut Vec<u8>, relation: Relation) -> Result<(), NoMemory>
+fn append_relation(text: &mut Vec<u8>, relation: Relation) -> Result<(), NoMemory>
     ensures { OnOk result (text.new.items ≡ text.old.items ++ relation_text relation) }
 {
     text.extend_from_slice(b" setup ")?;
-    append_time(alloc, text, relation.setup)?;
+    append_time(text, relation.setup)?;
     text.extend_from_slice(b" hold ")?;
-    append_time(alloc, text, relation.hold)?;
+    append_time(text, relation.hold)?;
     Ok(())
 }
 
@@ -147,11 +145,11 @@ fn append_edge(text: &mut Vec<u8>, edge: &TimedEdge) -> Result<(), NoMemory>
 }
 
 /// Appends a time in nanoseconds.
-fn append_time(alloc: Global, text: &mut Vec<u8>, time: i64) -> Result<(), NoMemory>
+fn append_time(text: &mut Vec<u8>, time: i64) -> Result<(), NoMemory>
     ensures { OnOk result (text.new.items ≡ text.old.items ++ nanoseconds_text time) }
 {
-    let number = time_text(alloc, time, NANOSECOND)?;
-    text.extend_from_slice(number.as_bytes())?;
+    let mut buffer = TimeBuffer::new();
+    text.extend_from_slice(buffer.format(time, NANOSECOND))?;
     Ok(())
 }
 

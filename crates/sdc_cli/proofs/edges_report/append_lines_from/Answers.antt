@@ -2,7 +2,7 @@ use Rattle.std.proofs.Common.{[], List, refl, sym, ◌∙◌, subst}
 use Rattle.std.proofs.lemmas.List.{drop_all}
 use Rattle.sdc_model.specs.declared.edge_times.TimedEdge.{TimedEdge}
 use Rattle.sdc_model.specs.EdgesText.{AreTimed, AreLinesFrom}
-use Rattle.sdc_cli.proofs.EdgeLines.{drop-item, LinesFrom-more, all_appended, line_appended}
+use Rattle.sdc_cli.proofs.EdgeLines.{drop-item, LinesFrom-more_parts, all_appended}
 use Rattle.sdc_cli.proofs.edges_report.append_lines_from.Goals as goal
 
 pub relation_of-requires-clause-capture : goal.relation_of-requires-clause-capture
@@ -14,8 +14,8 @@ loop-capture-preserved c =
     let at = drop-item _ _ _ c.loop-capture-test.true c.capture-item.is in
     record {
       timed = (subst AreTimed at c.loop-capture.invariant.timed).1;
-      lines = LinesFrom-more _ _ _ c.args.captures.now c.loop-capture.capture-index _ _ _ _ _ at c.loop-capture.invariant.lines c.relation_of.ensures
-          (line_appended _ _ _ _ _ _ _ (c.as_slice.ensures ∙ c.in_ok-front.ensures) c.in_ok-append_line.ensures);
+      lines = LinesFrom-more_parts _ _ _ _ c.args.captures.now c.loop-capture.capture-index _ _ _ _ _ at c.loop-capture.invariant.lines c.relation_of.ensures
+          (c.as_slice.ensures.value ∙ c.in_ok-front.ensures) c.in_ok-append_line.ensures;
     }
 
 pub returns : goal.returns
