@@ -8,7 +8,7 @@ use Rattle.std.proofs.lemmas.List.Elements.{filter-append}
 use Rattle.sdc_model.specs.declared.clocks.Pair.{Pair}
 use Rattle.clock_map.specs.declared.timings.Timing.{Timing}
 use Rattle.clock_map.specs.Timings.{AreFlags, lets_time, pair_unless, others_from, row_from, row, rows_from}
-use Rattle.clock_map.proofs.PlaceLists.{apart_or_same}
+use Rattle.std.proofs.lemmas.Bool.{cases_eq}
 
 -- ---- by flags
 
@@ -63,7 +63,7 @@ pub rows_with : (timings : List Timing) (count first a n : ℕ) → a ≤ first 
 rows_with timings count first a zero low high = absurd (omega arith)
 rows_with timings count first a (suc n) low high =
     filter-append (is_first first) (row timings count a) (rows_from timings count (suc a) n)
-    ∙ elim (apart_or_same a first) [
+    ∙ elim (cases_eq a first) [
       | inl same ↦
           ap (λ l. filter (is_first first) (row timings count a) ++ l) (rows_without timings count first (suc a) n (inl (omega arith)))
           ∙ append-nil (filter (is_first first) (row timings count a))

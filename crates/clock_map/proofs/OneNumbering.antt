@@ -1,10 +1,9 @@
 -- Numbers in the order of their first appearance: which of them are equal decides them all.
 use Rattle.std.proofs.Common.{◌≡◌, ◌≢◌, ℕ, zero, suc, ◌<◌, ◌≤◌, List, length, Option, Some, None, sym, ap, ◌∙◌, inl, inr, arith}
 use Rattle.std.specs.Prelude.{◌⊎◌, ◌↔◌, slice_get}
-use Rattle.std.proofs.lemmas.Bool.{cases_lt}
+use Rattle.std.proofs.lemmas.Bool.{cases_eq, cases_lt}
 use Rattle.sdc_model.specs.ClockIdentity.{IsFirstAt}
 use Rattle.clock_map.proofs.NumberLists.{element_at}
-use Rattle.clock_map.proofs.PlaceLists.{apart_or_same}
 use Rattle.clock_map.proofs.SharedClocks.{same_lists}
 
 -- numbers below a count, each of them somewhere, and lesser ones first
@@ -33,7 +32,7 @@ some_same x y e = cc
 
 is_there : (o : Option ℕ) (n : ℕ) → (o ≡ Some n) ⊎ (o ≡ Some n → ⊥)
 is_there None n = inr (λ e. cc)
-is_there (Some m) n = elim (apart_or_same m n) [ inl same ↦ inl (ap Some same) | inr other ↦ inr (λ e. other (some_same m n e)) ]
+is_there (Some m) n = elim (cases_eq m n) [ inl same ↦ inl (ap Some same) | inr other ↦ inr (λ e. other (some_same m n e)) ]
 
 before_or_new : (numbers : List ℕ) (n p : ℕ) → StandsBefore numbers n p ⊎ IsNewAt numbers n p
 before_or_new numbers n zero = inr (λ q within e. absurd (omega arith))
