@@ -190,7 +190,7 @@ rest_is_printable clocks before (clock ∷ rest) e each =
 no_wave : Wave
 no_wave = record { period = pos 0; rise = pos 0; fall = pos 0 }
 
-merged_is_printable : (modes : List Mode) (answer : ClockMap) → ModesArePrintable modes → IsClockMap (views_of modes) answer → ArePrintableClocks [] answer.clocks
+pub merged_is_printable : (modes : List Mode) (answer : ClockMap) → ModesArePrintable modes → IsClockMap (views_of modes) answer → ArePrintableClocks [] answer.clocks
 merged_is_printable modes answer printable is = rest_is_printable answer.clocks [] answer.clocks refl each where
   each : (k : ℕ) (clock : Clock) → slice_get answer.clocks k ≡ Some clock
       → IsPrintableClock clock × (Contains (map (λ (c : Clock). c.name) (take k answer.clocks)) clock.name → ⊥)
