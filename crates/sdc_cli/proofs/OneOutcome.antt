@@ -10,7 +10,7 @@ use Rattle.sdc_model.specs.declared.modes.Mode.{Mode}
 use Rattle.sdc_model.specs.Answers.{files_of, first_place, most_clocks}
 use Rattle.sdc_model.specs.ClockFile.{SaysMode, mode_of}
 use Rattle.sdc_model.specs.ModeFiles.{Continues, IsFaultAt, SayModes, SaysFile, with_first, within_limit}
-use Rattle.tcl_words.proofs.OneCommand.{splits_once}
+use Rattle.tcl_words.proofs.OneOutcome.{splits_once}
 use Rattle.sdc_cli.specs.Laws.{AreSame, HasOneOutcome}
 
 says_once : (bytes : List ℕ) (r s : Result Mode Kind) → SaysMode bytes r → SaysMode bytes s → r ≡ s

@@ -1,6 +1,6 @@
--- Kinds of bytes that the grammars here tell apart, and lines of a text. Tcl's, in the part that is read here.
+-- Kinds of bytes that the grammars here tell apart, and lines of a text. Tcl's.
 -- A byte is a number; each test says true of the bytes that it is named for.
-use Rattle.std.specs.Prelude.{◌+◌, ◌-◌, ◌^◌, ◌==◌, ◌||◌, ◌&&◌, ℕ, Bool, List, [], ◌∷◌, min, nat_le, if◌then◌else◌}
+use Rattle.std.specs.Prelude.{◌+◌, ◌-◌, ◌^◌, ◌==◌, ◌||◌, ◌&&◌, ℕ, Bool, false, List, [], ◌∷◌, length, min, nat_le, take, if◌then◌else◌}
 
 -- `A` to `Z` and `a` to `z`
 abbrev pub is_letter : ℕ → Bool
@@ -14,47 +14,43 @@ is_digit b = nat_le 48 b && nat_le b 57
 abbrev pub is_name_byte : ℕ → Bool
 is_name_byte b = is_letter b || is_digit b || b == 95
 
--- a byte that stands for itself in a bare word: of a name, or `.`, `+`, `-`
-abbrev pub is_plain : ℕ → Bool
-is_plain b = is_name_byte b || b == 46 || b == 43 || b == 45
-
 -- a space or a tab
 abbrev pub is_blank : ℕ → Bool
 is_blank b = b == 32 || b == 9
 
--- what opens and closes a braced word: `{` and `}`
-abbrev pub open_brace : ℕ
-open_brace = 123
+-- a space, a tab or a carriage return: what parts words
+abbrev pub is_space : ℕ → Bool
+is_space b = is_blank b || b == 13
 
-abbrev pub close_brace : ℕ
-close_brace = 125
-
--- what opens and closes a bracketed word: `[` and `]`
-abbrev pub open_bracket : ℕ
-open_bracket = 91
-
-abbrev pub close_bracket : ℕ
-close_bracket = 93
-
--- a byte that opens a word of another form than the bare one
-abbrev pub is_opening : ℕ → Bool
-is_opening b = b == open_brace || b == open_bracket
-
--- a byte that stands for itself in a braced word
-abbrev pub is_braced : ℕ → Bool
-is_braced b = is_plain b || is_blank b
-
--- a byte that stands for itself in a bracketed word
-abbrev pub is_bracketed : ℕ → Bool
-is_bracketed b = is_braced b || b == open_brace || b == close_brace
-
--- a newline or `;`
+-- a newline or `;`: what ends a command
 abbrev pub is_end : ℕ → Bool
 is_end b = b == 10 || b == 59
 
--- what may stand between commands
-abbrev pub is_separator : ℕ → Bool
-is_separator b = is_blank b || is_end b
+-- a byte behind which a word may begin inside brackets: `[`, a space or an end
+abbrev pub leads_word : ℕ → Bool
+leads_word b = b == 91 || is_space b || is_end b
+
+-- a byte that is a part of an index: a digit, `*`, `?` or `:`
+abbrev pub is_index_byte : ℕ → Bool
+is_index_byte b = is_digit b || b == 42 || b == 63 || b == 58
+
+-- the text begins with the byte
+abbrev pub begins_with : ℕ → List ℕ → Bool
+begins_with byte [] = false
+begins_with byte (b ∷ bs) = b == byte
+
+-- the bytes at the front of a text that pass a test, and the text behind them
+unfoldable pub front : (ℕ → Bool) → List ℕ → List ℕ
+front test [] = []
+front test (b ∷ bs) = if test b then b ∷ front test bs else []
+
+unfoldable pub behind : (ℕ → Bool) → List ℕ → List ℕ
+behind test [] = []
+behind test (b ∷ bs) = if test b then behind test bs else b ∷ bs
+
+-- what stands in a text before a text that ends it
+abbrev pub before : List ℕ → List ℕ → List ℕ
+before text rest = take (length text - length rest) text
 
 -- the last line number; lines that would pass it stay there
 abbrev pub last_line : ℕ

@@ -1,167 +1,143 @@
--- The grammar of commands (Tcl), as a relation between a text, its first command and the rest. The part of it that
--- is read here has bare words, braced ones and bracketed scripts, each on one line. Commands end at a newline or `;`
--- or with the text, words are parted by blanks, an empty command is passed over. Each further form of word is a
--- further case of IsWord and BreaksWord.
-use Rattle.std.specs.Prelude.{◌≡◌, ◌<◌, ◌≤◌, ◌||◌, ◌==◌, ◌⊎◌, ℕ, Bool, true, false, not, List, [], ◌∷◌, ◌++◌, length, drop, Option, Some, None, Result, Ok, Err}
-use Rattle.std.specs.List.{list_all}
+-- The grammar of commands (Tcl), as relations between a text, its first command and the rest. Commands end at a
+-- newline or `;` or with the text; words are parted by spaces and continued lines; a word is braced, quoted or bare.
+-- What Unclosed, ExtraAfterBrace and BadWord are, is told with the forms of words; each has the line where the
+-- command begins.
+use Rattle.std.specs.Prelude.{◌≡◌, ◌<◌, ◌≤◌, ◌++◌, ◌||◌, ◌&&◌, ◌==◌, ℕ, Bool, true, false, List, [], ◌∷◌, length, drop, Option, Some, None, Result, Ok, Err, if◌then◌else◌}
 use Rattle.sdc_base.specs.declared.memory.At.{At}
 use Rattle.sdc_model.specs.declared.commands.Command.{Command}
 use Rattle.sdc_model.specs.declared.commands.Word.{Word}
-use Rattle.sdc_model.specs.declared.commands.Part.TheVariants as part
 use Rattle.sdc_model.specs.declared.commands.Next.{Next}
 use Rattle.sdc_model.specs.declared.kinds.TclKind.{TclKind}
-use Rattle.sdc_model.specs.declared.kinds.TclKind.TheVariants.{BadWord, ExtraAfterBrace, Unclosed}
-use Rattle.sdc_model.specs.Bytes.{close_brace, close_bracket, is_blank, is_braced, is_bracketed, is_end, is_opening, is_plain, is_separator, line_after, open_brace, open_bracket}
+use Rattle.sdc_model.specs.declared.kinds.TclKind.TheVariants.{ExtraAfterBrace, Unclosed}
+use Rattle.sdc_model.specs.Bytes.{before, is_end, is_space, line_after}
+use Rattle.sdc_model.specs.Continued.{behind_gap, continues, from_command, parting}
+use Rattle.sdc_model.specs.Enclosed.{behind_brace}
+use Rattle.sdc_model.specs.Row.{Front, Row, found, stops}
+use Rattle.sdc_model.specs.Pieces.{Form, Piece, bare, braced, quoted, piece_at}
+use Rattle.sdc_model.specs.WordParts.{word_of_pieces}
 
--- all bytes of a run pass a test
-abbrev pub AllAre : (ℕ → Bool) → List ℕ → Type 0
-AllAre test bytes = list_all test bytes ≡ true
+-- ---- words
 
--- the text is at its end, or its first byte passes a test
-abbrev pub Begins : (ℕ → Bool) → List ℕ → Type 0
-Begins test [] = Unit {0}
-Begins test (b ∷ bs) = test b ≡ true
+-- these pieces stand in a row in a word of a form, and the word ends with this text behind it, or breaks
+abbrev pub ArePieces : Form → List Piece → List ℕ → Result (List ℕ) TclKind → Type 0
+ArePieces form pieces text end = Row (λ place stands. piece_at form place ≡ stands) pieces text end
 
--- a bare word: plain bytes, as its one text
-abbrev pub IsBare : Word → List ℕ → Type 0
-IsBare word spelling = (0 < length spelling) × AllAre is_plain spelling × (word ≡ record { parts = part.Text spelling ∷ [] })
+-- what stands at the front of a text: a word, or the end of the command, or a fault
+abbrev pub WordFront : Type 0
+WordFront = Front Word (List ℕ) (Result (List ℕ) TclKind)
 
--- bytes of a test, between a byte that opens and one that closes
-abbrev pub Encloses : ℕ → (ℕ → Bool) → ℕ → List ℕ → List ℕ → Type 0
-Encloses opener test closer inner spelling = AllAre test inner × (spelling ≡ opener ∷ (inner ++ closer ∷ []))
+-- a word may end before this text
+abbrev pub may_follow : List ℕ → Bool
+may_follow [] = true
+may_follow (b ∷ bs) = is_space b || is_end b || (b == 92 && continues bs)
 
--- a braced word: what its braces enclose, as its one text
-abbrev pub IsBraced : Word → List ℕ → Type 0
-IsBraced word spelling =
-    (inner : List ℕ) × Encloses open_brace is_braced close_brace inner spelling × (word ≡ record { parts = part.Text inner ∷ [] })
+-- a word of these pieces that has its end: a bare one, and one that a brace or quote closed
+abbrev pub ended_bare : List Piece → Result (List ℕ) TclKind → WordFront
+ended_bare pieces (Ok rest) = found (word_of_pieces pieces) rest
+ended_bare pieces (Err kind) = stops (Err kind)
 
--- a bracketed word: what its brackets enclose, as its one script
-abbrev pub IsBracketed : Word → List ℕ → Type 0
-IsBracketed word spelling =
-    (inner : List ℕ) × Encloses open_bracket is_bracketed close_bracket inner spelling × (word ≡ record { parts = part.Script inner ∷ [] })
+abbrev pub ended_closed : List Piece → Result (List ℕ) TclKind → WordFront
+ended_closed pieces (Ok rest) = if may_follow rest then found (word_of_pieces pieces) rest else stops (Err ExtraAfterBrace)
+ended_closed pieces (Err kind) = stops (Err kind)
 
--- a word and how it is spelled, in one of its forms
-abbrev pub IsWord : Word → List ℕ → Type 0
-IsWord word spelling = IsBare word spelling ⊎ (IsBraced word spelling ⊎ IsBracketed word spelling)
+-- a braced word: the text behind the opening brace, and the text behind the closing one
+abbrev pub IsBraced : List ℕ → Option (List ℕ) → WordFront → Type 0
+IsBraced text None front = front ≡ stops (Err Unclosed)
+IsBraced text (Some rest) front =
+    (pieces : List Piece) × ArePieces braced pieces (before text (125 ∷ rest)) (Ok []) × (front ≡ ended_closed pieces (Ok rest))
 
--- no bare word: behind plain bytes comes one that it has not
-pub record OddBare (text : List ℕ) : Type 0 where
-  pub front : List ℕ
-  pub bad : ℕ
-  pub rest : List ℕ
-  pub bare : Begins (λ b. not (is_opening b)) text
-  pub plain : AllAre is_plain front
-  pub all : text ≡ front ++ bad ∷ rest
-  pub odd : (is_plain bad || is_separator bad) ≡ false
+-- a quoted word, from the text behind the opening quote
+abbrev pub IsQuoted : List ℕ → WordFront → Type 0
+IsQuoted text front = (pieces : List Piece) × (end : Result (List ℕ) TclKind) × ArePieces quoted pieces text end × (front ≡ ended_closed pieces end)
 
--- opened, and the text or the command ends before the closing byte
-pub record NeverCloses (opener : ℕ) (test : ℕ → Bool) (text : List ℕ) : Type 0 where
-  pub inner : List ℕ
-  pub after : List ℕ
-  pub passes : AllAre test inner
-  pub all : text ≡ opener ∷ (inner ++ after)
-  pub ends : Begins is_end after
+-- a bare word, from its first byte on
+abbrev pub IsBare : List ℕ → WordFront → Type 0
+IsBare text front = (pieces : List Piece) × (end : Result (List ℕ) TclKind) × ArePieces bare pieces text end × (front ≡ ended_bare pieces end)
 
--- opened, and another byte comes before the closing one
-pub record OddInside (opener : ℕ) (test : ℕ → Bool) (closer : ℕ) (text : List ℕ) : Type 0 where
-  pub inner : List ℕ
-  pub bad : ℕ
-  pub rest : List ℕ
-  pub passes : AllAre test inner
-  pub all : text ≡ opener ∷ (inner ++ bad ∷ rest)
-  pub odd : (test bad || bad == closer || is_end bad) ≡ false
+-- how a text goes on behind a gap: with the end of the command, or with a word of a form
+pub data Opening : Type 0 where
+  command_end : Opening
+  brace_opens : List ℕ → Opening
+  quote_opens : List ℕ → Opening
+  bare_opens : Opening
 
--- closed, and behind the closing byte comes one that parts no words
-pub record OddBehind (opener : ℕ) (test : ℕ → Bool) (closer : ℕ) (text : List ℕ) : Type 0 where
-  pub inner : List ℕ
-  pub bad : ℕ
-  pub rest : List ℕ
-  pub passes : AllAre test inner
-  pub all : text ≡ opener ∷ (inner ++ closer ∷ (bad ∷ rest))
-  pub odd : is_separator bad ≡ false
+abbrev pub opening : List ℕ → Opening
+opening [] = command_end
+opening (b ∷ bs) =
+    if is_end b then command_end
+    else (if b == 123 then brace_opens bs
+    else (if b == 34 then quote_opens bs
+    else bare_opens))
 
--- no bare word, for a cause
-abbrev pub BreaksBare : TclKind → List ℕ → Type 0
-BreaksBare BadWord text = OddBare text
-BreaksBare _ text = ⊥
+abbrev pub IsWordOf : Opening → List ℕ → WordFront → Type 0
+IsWordOf command_end text front = front ≡ stops (Ok text)
+IsWordOf (brace_opens inside) text front = IsBraced inside (behind_brace inside) front
+IsWordOf (quote_opens inside) text front = IsQuoted inside front
+IsWordOf bare_opens text front = IsBare text front
 
--- no braced word, for a cause
-abbrev pub BreaksBraced : TclKind → List ℕ → Type 0
-BreaksBraced Unclosed text = NeverCloses open_brace is_braced text
-BreaksBraced BadWord text = OddInside open_brace is_braced close_brace text
-BreaksBraced ExtraAfterBrace text = OddBehind open_brace is_braced close_brace text
+-- what stands at the front of a text, behind a gap
+abbrev pub StandsWord : List ℕ → WordFront → Type 0
+StandsWord text front = IsWordOf (opening (behind_gap false text)) (behind_gap false text) front
 
--- no bracketed word, for a cause
-abbrev pub BreaksBracketed : TclKind → List ℕ → Type 0
-BreaksBracketed Unclosed text = NeverCloses open_bracket is_bracketed text
-BreaksBracketed BadWord text =
-    OddInside open_bracket is_bracketed close_bracket text ⊎ OddBehind open_bracket is_bracketed close_bracket text
-BreaksBracketed ExtraAfterBrace text = ⊥
+-- these words stand in a row, and the command ends before this text, or breaks
+abbrev pub AreWords : List Word → List ℕ → Result (List ℕ) TclKind → Type 0
+AreWords words text end = Row StandsWord words text end
 
--- no word stands at the front of a text, for a cause: it begins as one of a form, and goes on as none
-abbrev pub BreaksWord : TclKind → List ℕ → Type 0
-BreaksWord kind text = BreaksBare kind text ⊎ (BreaksBraced kind text ⊎ BreaksBracketed kind text)
+-- a word and how it is spelled wherever a word may stand: so not as a comment or a gap begins
+pub record IsWord (word : Word) (spelling : List ℕ) : Type 0 where
+  pub some : 0 < length spelling
+  pub first : (rest : List ℕ) → may_follow rest ≡ true → from_command parting (spelling ++ rest) ≡ spelling ++ rest
+  pub stands : (rest : List ℕ) → may_follow rest ≡ true → StandsWord (spelling ++ rest) (found word rest)
 
--- a word stands at the front of a text, behind a gap of blanks, and ends before what comes after
-pub record StandsWord (word : Word) (text after : List ℕ) : Type 0 where
-  pub gap : List ℕ
-  pub spelling : List ℕ
-  pub blanks : AllAre is_blank gap
-  pub spelled : IsWord word spelling
-  pub ends : Begins is_separator after
-  pub all : text ≡ gap ++ (spelling ++ after)
+-- ---- commands
 
--- the words of a command, and the text behind them, which begins where the command ends
-abbrev pub AreWords : List Word → List ℕ → List ℕ → Type 0
-AreWords [] text rest = (gap : List ℕ) × AllAre is_blank gap × (text ≡ gap ++ rest) × Begins is_end rest
-AreWords (word ∷ words) text rest = (after : List ℕ) × StandsWord word text after × AreWords words after rest
+-- a text, and the line where it begins
+pub record Place : Type 0 where
+  pub text : List ℕ
+  pub line : ℕ
 
--- these words stand at the front, and behind them and a gap of blanks stands no word, for a cause
-abbrev pub BreaksAfter : List Word → TclKind → List ℕ → Type 0
-BreaksAfter [] kind text = (gap : List ℕ) × (after : List ℕ) × AllAre is_blank gap × (text ≡ gap ++ after) × BreaksWord kind after
-BreaksAfter (word ∷ words) kind text = (after : List ℕ) × StandsWord word text after × BreaksAfter words kind after
+-- what stands at a place: a command with the place behind it, or none, or a fault
+abbrev pub CommandFront : Type 0
+CommandFront = Front Command Place (Option (At TclKind))
+
+-- the command of these words, from where it begins
+abbrev pub ended_command : Place → List Word → Result (List ℕ) TclKind → CommandFront
+ended_command place words (Ok rest) =
+    found (record { line = place.line; words = words }) (record { text = rest; line = line_after (before place.text rest) place.line })
+ended_command place words (Err kind) = stops (Some (record { line = place.line; kind = kind }))
+
+-- the place where the first command begins, behind what parts commands
+abbrev pub command_place : Place → Place
+command_place place =
+    let text = from_command parting place.text in record { text = text; line = line_after (before place.text text) place.line }
+
+-- a command that begins here, or none at the end of the text
+abbrev pub IsCommand : List ℕ → Place → CommandFront → Type 0
+IsCommand [] place front = front ≡ stops None
+IsCommand (b ∷ bs) place front =
+    (words : List Word) × (end : Result (List ℕ) TclKind) × AreWords words place.text end × (front ≡ ended_command place words end)
+
+-- what stands at or behind a place
+abbrev pub StandsCommand : Place → CommandFront → Type 0
+StandsCommand place front = IsCommand (from_command parting place.text) (command_place place) front
 
 -- the first command of a text that begins on a line, the text behind the command, and the line there
-pub record IsFirst (text : List ℕ) (line : ℕ) (command : Command) (rest : List ℕ) (line_behind : ℕ) : Type 0 where
-  pub skipped : List ℕ
-  pub spelling : List ℕ
-  pub separators : AllAre is_separator skipped
-  pub all : text ≡ skipped ++ (spelling ++ rest)
-  pub some : 0 < length command.words
-  pub words : AreWords command.words (spelling ++ rest) rest
-  pub begins_on : command.line ≡ line_after skipped line
-  pub ends_on : line_behind ≡ line_after spelling command.line
-
--- the first command of a text that begins on a line cannot be read: the line where it begins, and the cause
-pub record IsBroken (text : List ℕ) (line : ℕ) (fault : At TclKind) : Type 0 where
-  pub skipped : List ℕ
-  pub body : List ℕ
-  pub words : List Word
-  pub separators : AllAre is_separator skipped
-  pub all : text ≡ skipped ++ body
-  pub breaks : BreaksAfter words fault.kind body
-  pub begins_on : fault.line ≡ line_after skipped line
+abbrev pub IsFirst : List ℕ → ℕ → Command → List ℕ → ℕ → Type 0
+IsFirst text line command rest line_behind =
+    StandsCommand (record { text = text; line = line }) (found command (record { text = rest; line = line_behind }))
 
 -- what stands at or behind a place of a text: a first command with its end, none, or a fault
 abbrev pub FirstFrom : List ℕ → ℕ → ℕ → Result (Option Next) (At TclKind) → Type 0
-FirstFrom text from line (Ok None) = AllAre is_separator (drop from text)
+FirstFrom text from line (Ok None) = StandsCommand (record { text = drop from text; line = line }) (stops None)
 FirstFrom text from line (Ok (Some next)) =
     IsFirst (drop from text) line next.command (drop next.end text) next.line × (from ≤ next.end) × (next.end ≤ length text)
-FirstFrom text from line (Err fault) = IsBroken (drop from text) line fault
+FirstFrom text from line (Err fault) = StandsCommand (record { text = drop from text; line = line }) (stops (Some fault))
 
 -- the commands of a text that begins on a line, all of them
 abbrev pub AreCommands : List Command → List ℕ → ℕ → Type 0
-AreCommands [] text line = AllAre is_separator text
-AreCommands (command ∷ commands) text line =
-    (rest : List ℕ) × (line_behind : ℕ) × IsFirst text line command rest line_behind × AreCommands commands rest line_behind
+AreCommands commands text line = Row StandsCommand commands (record { text = text; line = line }) None
 
--- these commands stand at the front, and the next one cannot be read
-abbrev pub BreaksBehind : List Command → At TclKind → List ℕ → ℕ → Type 0
-BreaksBehind [] fault text line = IsBroken text line fault
-BreaksBehind (command ∷ commands) fault text line =
-    (rest : List ℕ) × (line_behind : ℕ) × IsFirst text line command rest line_behind × BreaksBehind commands fault rest line_behind
-
--- what a whole text gives: all its commands, or the first fault
+-- what a whole text gives: all its commands, or the first fault behind those that stand
 abbrev pub Splits : List ℕ → Result (List Command) (At TclKind) → Type 0
 Splits text (Ok commands) = AreCommands commands text 1
-Splits text (Err fault) = (before : List Command) × BreaksBehind before fault text 1
+Splits text (Err fault) = (commands : List Command) × Row StandsCommand commands (record { text = text; line = 1 }) (Some fault)

@@ -1,5 +1,7 @@
 //! The kinds of fault of a source, and a fault with its place.
 
+use sdc_base::{Duplicate, NoMemory};
+use std::alloc::Global;
 use thiserror::Error;
 
 /// Faults of a script (Tcl).
@@ -25,6 +27,35 @@ pub enum SdcKind {
     /// More clocks than a run takes.
     #[error("more clocks than are taken")]
     TooMany,
+}
+
+/// Faults of a library (Liberty).
+#[derive(Clone, Copy, Debug, PartialEq, Eq, PartialOrd, Ord, Error)]
+pub enum LibKind {
+    /// The file is no text.
+    #[error("not a text")]
+    NotText,
+    /// A text that is no library.
+    #[error("not a library")]
+    LibForm,
+    /// A name that is no pin and no state variable of the cell.
+    #[error("no pin of the cell")]
+    UnknownPin,
+    /// A text that is no function.
+    #[error("not a function")]
+    FunctionForm,
+    /// A function of more inputs than are taken.
+    #[error("a function of more than 10 inputs")]
+    FunctionWide,
+    /// A second cell of one name.
+    #[error("a second cell of this name")]
+    DoubleCell,
+}
+
+impl Duplicate for LibKind {
+    fn copy(&self, _alloc: Global) -> Result<LibKind, NoMemory> {
+        Ok(*self)
+    }
 }
 
 /// Faults of a source.

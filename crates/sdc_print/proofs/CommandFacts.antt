@@ -1,8 +1,15 @@
 -- Lines of words that the grammar has, each as it is spelled: they are commands of these words.
-use Rattle.std.proofs.Common.{◌≡◌, ◌<◌, ℕ, List, [], ◌∷◌, ◌++◌, length, map, refl, sym, ap, ◌∙◌, subst, append_assoc, codes, arith}
-use Rattle.std.proofs.lemmas.List.{append-nil, length-map}
-use Rattle.sdc_model.specs.Bytes.{is_separator, line_after}
-use Rattle.sdc_model.specs.Commands.{AllAre, Begins, AreWords, AreCommands, IsFirst}
+use Rattle.std.proofs.Common.{◌≡◌, ◌<◌, ◌-◌, ◌||◌, ℕ, Bool, false, true, List, [], ◌∷◌, ◌++◌, Option, None, Result, Ok, length, map, take, refl, sym, ap, ◌∙◌, subst, append_assoc, codes, arith}
+use Rattle.std.specs.List.{list_all}
+use Rattle.std.proofs.lemmas.Bool.{and_parts}
+use Rattle.std.proofs.lemmas.List.{append-nil, length-append, take_at}
+use Rattle.sdc_model.specs.declared.commands.Command.{Command}
+use Rattle.sdc_model.specs.declared.commands.Word.{Word}
+use Rattle.sdc_model.specs.declared.kinds.TclKind.{TclKind}
+use Rattle.sdc_model.specs.Bytes.{before, is_end, is_space, line_after}
+use Rattle.sdc_model.specs.Commands.{AreCommands, AreWords, CommandFront, IsCommand, IsFirst, IsWord, IsWordOf, Place, StandsWord, WordFront, ended_command, may_follow, opening}
+use Rattle.sdc_model.specs.Continued.{behind_gap, from_command, parting}
+use Rattle.sdc_model.specs.Row.{found, stops}
 use Rattle.sdc_model.specs.PrintedLine.{PrintedWord, spelled, words_text, line_text, lines_text}
 use Rattle.sdc_model.specs.PrintedCommands.{AreSpelled, AreSpelledLines, LineIsFirst, LinesAreCommands, word_of, command_of, commands_of}
 
@@ -16,54 +23,93 @@ words_text_is word [] = sym (append-nil (spelled word))
 words_text_is word (next ∷ words) = ap (λ l. spelled word ++ (32 ∷ l)) (words_text_is next words)
 
 -- behind a word comes a blank or the newline
-parts_words : (words : List PrintedWord) (rest : List ℕ) → Begins is_separator (more_text words ++ (10 ∷ rest))
+parts_words : (words : List PrintedWord) (rest : List ℕ) → may_follow (more_text words ++ (10 ∷ rest)) ≡ true
 parts_words [] rest = refl
 parts_words (word ∷ words) rest = refl
 
-are_more_words : (words : List PrintedWord) (rest : List ℕ) → AreSpelled words → AreWords (map word_of words) (more_text words ++ (10 ∷ rest)) (10 ∷ rest)
-are_more_words [] rest s = ([], refl, refl, refl)
+gap_blank : (text : List ℕ) → behind_gap false (32 ∷ text) ≡ behind_gap false text
+unfolding behind_gap
+gap_blank text = refl
+
+gap_newline : (rest : List ℕ) → behind_gap false (10 ∷ rest) ≡ 10 ∷ rest
+unfolding behind_gap
+gap_newline rest = refl
+
+behind_blank : (text : List ℕ) (front : WordFront) → StandsWord text front → StandsWord (32 ∷ text) front
+behind_blank text front w = subst (λ (t : List ℕ). IsWordOf (opening t) t front) (sym (gap_blank text)) w
+
+line_ends : (rest : List ℕ) → StandsWord (10 ∷ rest) (stops (Ok (10 ∷ rest)))
+line_ends rest = subst (λ (t : List ℕ). IsWordOf (opening t) t (stops (Ok (10 ∷ rest)))) (sym (gap_newline rest)) refl
+
+are_more_words : (words : List PrintedWord) (rest : List ℕ) → AreSpelled words → AreWords (map word_of words) (more_text words ++ (10 ∷ rest)) (Ok (10 ∷ rest))
+are_more_words [] rest s = line_ends rest
 are_more_words (word ∷ words) rest s =
     let after = more_text words ++ (10 ∷ rest) in (
       after,
-      record {
-        gap = 32 ∷ [];
-        spelling = spelled word;
-        blanks = refl;
-        spelled = s.0;
-        ends = parts_words words rest;
-        all = ap (λ l. 32 ∷ l) (append_assoc (spelled word) (more_text words) (10 ∷ rest));
-      },
+      subst (λ (t : List ℕ). StandsWord t (found (word_of word) after)) (sym (ap (λ (l : List ℕ). 32 ∷ l) (append_assoc (spelled word) (more_text words) (10 ∷ rest))))
+        (behind_blank (spelled word ++ after) (found (word_of word) after) (s.0.stands after (parts_words words rest))),
       are_more_words words rest s.1,
     )
 
-are_words : (words : List PrintedWord) (rest : List ℕ) → 0 < length words → AreSpelled words → AreWords (map word_of words) (words_text words ++ (10 ∷ rest)) (10 ∷ rest)
-are_words [] rest h s = absurd (omega arith)
-are_words (word ∷ words) rest h s =
+-- a line is its first word, what comes behind it, and the newline
+line_is : (word : PrintedWord) (words : List PrintedWord) (rest : List ℕ) → words_text (word ∷ words) ++ (10 ∷ rest) ≡ spelled word ++ (more_text words ++ (10 ∷ rest))
+line_is word words rest = ap (λ (l : List ℕ). l ++ (10 ∷ rest)) (words_text_is word words) ∙ append_assoc (spelled word) (more_text words) (10 ∷ rest)
+
+are_words : (word : PrintedWord) (words : List PrintedWord) (rest : List ℕ) → AreSpelled (word ∷ words) → AreWords (map word_of (word ∷ words)) (words_text (word ∷ words) ++ (10 ∷ rest)) (Ok (10 ∷ rest))
+are_words word words rest s =
     let after = more_text words ++ (10 ∷ rest) in (
       after,
-      record {
-        gap = [];
-        spelling = spelled word;
-        blanks = refl;
-        spelled = s.0;
-        ends = parts_words words rest;
-        all = ap (λ l. l ++ (10 ∷ rest)) (words_text_is word words) ∙ append_assoc (spelled word) (more_text words) (10 ∷ rest);
-      },
+      subst (λ (t : List ℕ). StandsWord t (found (word_of word) after)) (sym (line_is word words rest)) (s.0.stands after (parts_words words rest)),
       are_more_words words rest s.1,
     )
 
--- a line behind separators, and before other text
-is_first : (skipped : List ℕ) (words : List PrintedWord) (rest : List ℕ) (line : ℕ) → AllAre is_separator skipped → 0 < length words → AreSpelled words → IsFirst (skipped ++ (line_text words ++ rest)) line (command_of (line_after skipped line) words) (10 ∷ rest) (line_after (words_text words) (line_after skipped line))
-is_first skipped words rest line p h s = record {
-  skipped = skipped;
-  spelling = words_text words;
-  separators = p;
-  all = ap (λ l. skipped ++ l) (append_assoc (words_text words) (codes "\n") rest);
-  some = omega (arith, h, length-map words word_of);
-  words = are_words words rest h s;
-  begins_on = refl;
-  ends_on = refl;
-}
+-- what parts commands is passed over
+abbrev pub is_parting : ℕ → Bool
+is_parting b = is_space b || is_end b
+
+passed : (b : ℕ) (bs : List ℕ) → is_parting b ≡ true → from_command parting (b ∷ bs) ≡ from_command parting bs
+unfolding from_command
+passed b bs p = rw p refl
+
+none_left : from_command parting [] ≡ []
+unfolding from_command
+none_left = refl
+
+from_skipped : (skipped text : List ℕ) → list_all is_parting skipped ≡ true → from_command parting (skipped ++ text) ≡ from_command parting text
+from_skipped [] text p = refl
+from_skipped (b ∷ bs) text p =
+    let parts = and_parts (is_parting b) (list_all is_parting bs) p in passed b (bs ++ text) parts.0 ∙ from_skipped bs text parts.1
+
+before_is : (text rest : List ℕ) → before (text ++ rest) rest ≡ text
+before_is text rest =
+    let n : length (text ++ rest) - length rest ≡ length text = omega (arith, length-append text rest) in
+    ap (λ (k : ℕ). take k (text ++ rest)) n ∙ take_at text rest (length text) refl
+
+command_here : (text : List ℕ) (place : Place) (front : CommandFront) (words : List Word) (end : Result (List ℕ) TclKind) → 0 < length text → AreWords words place.text end → front ≡ ended_command place words end → IsCommand text place front
+command_here [] place front words end some row e = absurd (omega arith)
+command_here (b ∷ bs) place front words end some row e = (words, end, row, e)
+
+-- a line behind what parts commands, and before other text
+is_first : (skipped : List ℕ) (words : List PrintedWord) (rest : List ℕ) (line : ℕ) → list_all is_parting skipped ≡ true → 0 < length words → AreSpelled words → IsFirst (skipped ++ (line_text words ++ rest)) line (command_of (line_after skipped line) words) (10 ∷ rest) (line_after (words_text words) (line_after skipped line))
+is_first skipped [] rest line p h s = absurd (omega arith)
+is_first skipped (word ∷ words) rest line p h s =
+    let body : List ℕ = words_text (word ∷ words) ++ (10 ∷ rest) in
+    let after : List ℕ = more_text words ++ (10 ∷ rest) in
+    let begin : ℕ = line_after skipped line in
+    let front : CommandFront = found (command_of begin (word ∷ words)) (record { text = 10 ∷ rest; line = line_after (words_text (word ∷ words)) begin }) in
+    let whole : skipped ++ (line_text (word ∷ words) ++ rest) ≡ skipped ++ body = ap (λ (l : List ℕ). skipped ++ l) (append_assoc (words_text (word ∷ words)) (codes "\n") rest) in
+    let starts : from_command parting (skipped ++ body) ≡ body =
+      from_skipped skipped body p ∙ (ap (from_command parting) (line_is word words rest) ∙ (s.0.first after (parts_words words rest) ∙ sym (line_is word words rest))) in
+    let long : 0 < length body = omega (arith, ap length (line_is word words rest), length-append (spelled word) after, s.0.some) in
+    let place : Place = record { text = body; line = begin } in
+    let here : IsCommand body place front =
+      command_here body place front (map word_of (word ∷ words)) (Ok (10 ∷ rest)) long (are_words word words rest s)
+      (ap (λ (t : List ℕ). found (command_of begin (word ∷ words)) (record { text = 10 ∷ rest; line = line_after t begin })) (sym (before_is (words_text (word ∷ words)) (10 ∷ rest)))) in
+    let lined : IsCommand body (record { text = body; line = line_after (before (skipped ++ body) body) line }) front =
+      subst (λ (t : List ℕ). IsCommand body (record { text = body; line = line_after t line }) front) (sym (before_is skipped body)) here in
+    let placed : IsFirst (skipped ++ body) line (command_of begin (word ∷ words)) (10 ∷ rest) (line_after (words_text (word ∷ words)) begin) =
+      subst (λ (t : List ℕ). IsCommand t (record { text = t; line = line_after (before (skipped ++ body) t) line }) front) (sym starts) lined in
+    subst (λ (t : List ℕ). IsFirst t line (command_of begin (word ∷ words)) (10 ∷ rest) (line_after (words_text (word ∷ words)) begin)) (sym whole) placed
 
 pub line_is_first : (words : List PrintedWord) → LineIsFirst words
 line_is_first words rest line h s = is_first [] words rest line refl h s
@@ -72,16 +118,19 @@ line_after-append : (first second : List ℕ) (line : ℕ) → line_after (first
 line_after-append [] second line = refl
 line_after-append (b ∷ bs) second line = line_after-append bs second _
 
--- lines behind separators
-are_commands : (lines : List (List PrintedWord)) (skipped : List ℕ) (line : ℕ) → AllAre is_separator skipped → AreSpelledLines lines → AreCommands (commands_of (line_after skipped line) lines) (skipped ++ lines_text lines) line
-are_commands [] skipped line p s = subst (AllAre is_separator) (sym (append-nil skipped)) p
+nothing_left : (text : List ℕ) (line : ℕ) → list_all is_parting text ≡ true → AreCommands [] text line
+nothing_left text line p =
+    subst (λ (t : List ℕ). IsCommand t (record { text = t; line = line_after (before text t) line }) (stops None)) (sym (ap (from_command parting) (sym (append-nil text)) ∙ (from_skipped text [] p ∙ none_left))) refl
+
+-- lines behind what parts commands
+are_commands : (lines : List (List PrintedWord)) (skipped : List ℕ) (line : ℕ) → list_all is_parting skipped ≡ true → AreSpelledLines lines → AreCommands (commands_of (line_after skipped line) lines) (skipped ++ lines_text lines) line
+are_commands [] skipped line p s = subst (λ (t : List ℕ). AreCommands [] t line) (sym (append-nil skipped)) (nothing_left skipped line p)
 are_commands (words ∷ lines) skipped line p s =
     let begin = line_after skipped line in
     let behind = line_after (words_text words) begin in
     let rest = lines_text lines in
     let others = are_commands lines (codes "\n") behind refl s.2 in (
-      10 ∷ rest,
-      behind,
+      record { text = 10 ∷ rest; line = behind },
       is_first skipped words rest line p s.0 s.1,
       subst (λ n. AreCommands (commands_of n lines) (10 ∷ rest) behind) (sym (line_after-append (words_text words) (codes "\n") begin)) others,
     )

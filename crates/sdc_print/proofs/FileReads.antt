@@ -7,13 +7,12 @@ use Rattle.sdc_model.specs.declared.designs.Design.{Design}
 use Rattle.sdc_model.specs.declared.modes.Mode.{Mode}
 use Rattle.sdc_model.specs.ClockFile.{SaysMode, SoFar, clock_mode}
 use Rattle.sdc_model.specs.ClockGroups.{Groups, exclusive_pairs}
-use Rattle.sdc_model.specs.PrintedCommands.{AreSpelledLines}
 use Rattle.sdc_model.specs.PlainViews.{without_line}
 use Rattle.sdc_model.specs.PrintedFile.{IsPrintable, clock_lines, group_lines, header_lines, printed_file, without_lines}
 use Rattle.sdc_model.specs.PrintedLine.{PrintedWord, lines_text}
 use Rattle.sdc_print.specs.FileLaw.{FileReadsBack}
 use Rattle.sdc_print.proofs.ClockLines.{Goes, Said, clock_lines_go, goes_on, header_goes}
-use Rattle.sdc_print.proofs.FileText.{spelled_append}
+use Rattle.sdc_print.proofs.FileText.{AreFineLines, spelled_append}
 use Rattle.sdc_print.proofs.GroupLines.{group_lines_go, groups_spelled}
 use Rattle.sdc_print.proofs.GroupPairs.{exclusive_are, groups_from}
 use Rattle.sdc_print.proofs.PrintedFacts.{clocks_spelled, file_says, header_spelled}
@@ -27,7 +26,7 @@ file_is : (design : Design) (mode : Mode) → design.unit ≡ ns → lines_text 
 unfolding printed_file
 file_is design mode e = ap (λ (unit : ℤ). lines_text (lines_in unit mode)) (sym e)
 
-all_spelled : (design : Design) (mode : Mode) → IsPrintable design mode → AreSpelledLines (lines_in ns mode)
+all_spelled : (design : Design) (mode : Mode) → IsPrintable design mode → AreFineLines (lines_in ns mode)
 all_spelled design mode p =
     let clocks = clock_lines ns mode.clocks in
     let groups = group_lines mode.clocks mode.exclusive 0 mode.clocks in

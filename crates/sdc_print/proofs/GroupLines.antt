@@ -7,17 +7,17 @@ use Rattle.std.specs.Option.{option_and_then}
 use Rattle.sdc_model.specs.declared.clocks.Clock.{Clock}
 use Rattle.sdc_model.specs.declared.clocks.Pair.{Pair}
 use Rattle.sdc_model.specs.declared.commands.Part.TheVariants as part
-use Rattle.sdc_model.specs.Bytes.{is_braced, is_bracketed}
 use Rattle.sdc_model.specs.ClockFile.{SoFar, does, grouped, is_taken, with_groups}
 use Rattle.sdc_model.specs.ClockGroups.{Groups, before_brace, group_of, place_from, places_of}
-use Rattle.sdc_model.specs.PrintedCommands.{AreSpelledLines, word_of}
+use Rattle.sdc_model.specs.PrintedCommands.{word_of}
 use Rattle.sdc_model.specs.PlainViews.{without_line}
 use Rattle.sdc_model.specs.PrintedFile.{ArePairs, ArePrintableClocks, exclusive_to, group_line, group_lines, lines_of_group, name_of, names_at}
 use Rattle.sdc_model.specs.PrintedLine.{bare, list_word, spaced, words_text}
 use Rattle.sdc_model.specs.Words.{is_text, same_text}
 use Rattle.sdc_print.proofs.ClockLines.{Goes, Said, goes_line, goes_none, goes_on}
-use Rattle.sdc_print.proofs.FileText.{AreItems, IsItem, bare_spelled, bracketed_spelled, all_append, items_bracketed, items_braced, spelled_append}
+use Rattle.sdc_print.proofs.FileText.{AreFineLines, AreItems, IsItem, bare_spelled, items_braced, query_spelled, spelled_append}
 use Rattle.sdc_print.proofs.GroupPairs.{AreWithin, exclusive_within, groups_from, groups_of}
+use Rattle.sdc_print.proofs.PlainWords.{is_braced}
 use Rattle.sdc_print.proofs.PrintedFacts.{name_item}
 use Rattle.sdc_print.proofs.WaveText.{items_spaced}
 
@@ -161,10 +161,7 @@ group_lines_go all before (clock ∷ clocks) pairs place done start whole a o e 
 
 -- ---- their words
 
-query_spelled : (names : List (List ℕ)) → AreItems names → list_all is_bracketed (script_of names) ≡ true
-query_spelled names a = all_append is_bracketed (spaced names) (125 ∷ []) (items_bracketed names a) refl
-
-group_line_spelled : (name : List ℕ) (names : List (List ℕ)) → IsItem name → AreItems names → AreSpelledLines (group_line name names ∷ [])
+group_line_spelled : (name : List ℕ) (names : List (List ℕ)) → IsItem name → AreItems names → AreFineLines (group_line name names ∷ [])
 unfolding group_line
 group_line_spelled name names n ns = (
   lit< tt,
@@ -175,10 +172,10 @@ group_line_spelled name names n ns = (
       (
         bare_spelled (codes "-group") (lit< tt) refl,
         (
-          bracketed_spelled (script_of (name ∷ [])) (query_spelled (name ∷ []) (n, tt)),
+          query_spelled (name ∷ []) (items_braced (name ∷ []) (n, tt)),
           (
             bare_spelled (codes "-group") (lit< tt) refl,
-            (bracketed_spelled (script_of names) (query_spelled names ns), tt),
+            (query_spelled names (items_braced names ns), tt),
           ),
         ),
       ),
@@ -187,11 +184,11 @@ group_line_spelled name names n ns = (
   tt,
 )
 
-line_spelled : (name : List ℕ) (names : List (List ℕ)) → IsItem name → AreItems names → AreSpelledLines (lines_of_group name names)
+line_spelled : (name : List ℕ) (names : List (List ℕ)) → IsItem name → AreItems names → AreFineLines (lines_of_group name names)
 line_spelled name [] n ns = tt
 line_spelled name (other ∷ others) n ns = group_line_spelled name (other ∷ others) n ns
 
-pub groups_spelled : (all before clocks : List Clock) (pairs : List Pair) (place : ℕ) → ArePrintableClocks [] all → ArePrintableClocks before clocks → ArePairs (length all) pairs → AreSpelledLines (group_lines all pairs place clocks)
+pub groups_spelled : (all before clocks : List Clock) (pairs : List Pair) (place : ℕ) → ArePrintableClocks [] all → ArePrintableClocks before clocks → ArePairs (length all) pairs → AreFineLines (group_lines all pairs place clocks)
 groups_spelled all before [] pairs place whole a o = tt
 groups_spelled all before (clock ∷ clocks) pairs place whole a o =
     let names = names_at all (exclusive_to place pairs) in

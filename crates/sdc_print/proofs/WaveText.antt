@@ -13,13 +13,14 @@ use Rattle.sdc_base.specs.NumberLaws.{IsTimeText, ReadsBack, is_time_byte}
 use Rattle.sdc_base.specs.Time.{time_text_of}
 use Rattle.sdc_base.proofs.ReadBackFacts.{time_text_plain, time_text_reads_back}
 use Rattle.sdc_model.specs.declared.clocks.Wave.{Wave}
-use Rattle.sdc_model.specs.Bytes.{is_blank, is_plain}
+use Rattle.sdc_model.specs.Bytes.{is_blank}
 use Rattle.sdc_model.specs.ClockFile.{wave_given}
 use Rattle.sdc_model.specs.Items.{Parted, all_items, items, parted}
 use Rattle.sdc_model.specs.PrintedFile.{IsPrintableWave}
 use Rattle.sdc_model.specs.PrintedLine.{spaced}
 use Rattle.sdc_model.specs.Waveform.{nanoseconds, time_from, time_in, limited_time, wave_of, wave_within, waveform_of}
 use Rattle.sdc_print.proofs.FileText.{AreItems, IsItem, all_pass}
+use Rattle.sdc_print.proofs.PlainWords.{is_plain}
 
 plain_not_blank : (b : ℕ) → is_plain b ≡ true → is_blank b ≡ false
 plain_not_blank b p = grind (arith, nat_tests)

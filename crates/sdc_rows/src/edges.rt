@@ -48,6 +48,11 @@ fn reports_of_clock_files(rt: HostRuntime) -> Result<(), Fail> {
             ";create_clock  -name\tA -period 1E1;create_clock -name B -period +15.",
             TWO_CLOCKS_REPORT,
         ),
+        ("# no clock {", ""),
+        (
+            "# two\ncreate_clock -name \"A\" \\\n  -period 10\r\ncreate_clock -name \\B -period 15\r\n",
+            TWO_CLOCKS_REPORT,
+        ),
         (
             "create_clock -name A -period 0.000003",
             THREE_FEMTOSECONDS_REPORT,
@@ -100,9 +105,9 @@ fn what_is_not_read(rt: HostRuntime) -> Result<(), Fail> {
         "create_clock -name A -period ten",
         "create_clock -name A.B -period 10",
         "create_clock -name A -period 10\ncreate_clock -name A -period 20",
-        "create_clock -name A -period 10 \\\n",
-        "# a comment",
-        "create_clock -name A -period 10\r\n",
+        "create_clock -name $A -period 10",
+        "create_clock -name {A}B -period 10",
+        "create_clock -name A -period \"10",
         "foo",
     ] {
         let refused = outcome_of(rt.alloc(), "edges a.sdc", &[("a.sdc", text)], 16, NO_FAILS)?;

@@ -1,42 +1,60 @@
--- What stands at a place of a text: a word, the words of a command. This project's own words for what the reader
--- of commands finds, over the grammar of commands. Each says what was read, and where it ends.
-use Rattle.std.specs.Prelude.{◌≡◌, ◌<◌, ◌≤◌, ◌++◌, ℕ, List, drop, length, Result, Ok, Err}
-use Rattle.sdc_base.specs.declared.memory.At.{At}
+-- What stands at a place of a text: the pieces of a word, a word, the words of a command. This project's own words for
+-- what the reader of commands finds, over the grammar of commands. Each says what was read, and where it ends.
+use Rattle.std.specs.Prelude.{◌≡◌, ◌<◌, ◌≤◌, ◌||◌, ◌&&◌, ◌==◌, ◌⊎◌, ℕ, Bool, false, not, List, [], ◌∷◌, drop, length, Result, Ok, Err}
+use Rattle.std.specs.Str.{IsCharBoundary}
 use Rattle.sdc_model.specs.declared.commands.Word.{Word}
 use Rattle.sdc_model.specs.declared.kinds.TclKind.{TclKind}
-use Rattle.sdc_model.specs.Bytes.{is_end, is_separator, line_after}
-use Rattle.sdc_model.specs.Commands.{AreWords, Begins, BreaksAfter, BreaksWord, IsWord}
+use Rattle.sdc_model.specs.Bytes.{is_end, is_space}
+use Rattle.sdc_model.specs.Commands.{ArePieces, AreWords, IsWordOf, WordFront, opening}
+use Rattle.sdc_model.specs.Continued.{continues}
+use Rattle.sdc_model.specs.Pieces as grammar
+use Rattle.sdc_model.specs.Row.{found, stops}
+use Rattle.sdc_model.specs.WordParts.{word_of_pieces}
 use Rattle.tcl_words.specs.declared.reader.Words.{Words}
+use Rattle.tcl_words.specs.declared.runs.Form.{Form}
 use Rattle.tcl_words.specs.declared.spelled.Spelled.{Spelled}
+use Rattle.tcl_words.specs.Forms.{form_of}
 
--- the text between two places, which has no newline
-pub record IsLine (text : List ℕ) (from to : ℕ) (spelling : List ℕ) : Type 0 where
-  pub all : drop from text ≡ spelling ++ drop to text
-  pub forward : from ≤ to
-  pub within : to ≤ length text
-  pub same_line : (line : ℕ) → line_after spelling line ≡ line
+-- the pieces of a word stand from a place to its end
+pub record PiecesTo (form : Form) (text : List ℕ) (from : ℕ) (spelled : Spelled) : Type 0 where
+  pub pieces : List grammar.Piece
+  pub row : ArePieces (form_of form) pieces (drop from text) (Ok (drop spelled.end text))
+  pub word : spelled.word ≡ word_of_pieces pieces
+  pub within : spelled.end ≤ length text
+  pub forward : from ≤ spelled.end
+  pub further : (pieces ≡ []) ⊎ (from < spelled.end)
+  pub boundary : IsCharBoundary text spelled.end
 
--- a word stands at a place
+-- what stands from a place: the pieces of a word, or a fault of it
+abbrev pub PiecesFrom : Form → List ℕ → ℕ → Result Spelled TclKind → Type 0
+PiecesFrom form text from (Ok spelled) = PiecesTo form text from spelled
+PiecesFrom form text from (Err kind) = (pieces : List grammar.Piece) × ArePieces (form_of form) pieces (drop from text) (Err kind)
+
+-- a text begins with a byte of a word
+abbrev pub starts : List ℕ → Bool
+starts [] = false
+starts (b ∷ bs) = not (is_space b || is_end b || (b == 92 && continues bs))
+
+-- a word begins at a place
 pub record WordAt (text : List ℕ) (from : ℕ) (spelled : Spelled) : Type 0 where
-  pub spelling : List ℕ
-  pub between : IsLine text from spelled.end spelling
-  pub word : IsWord spelled.word spelling
-  pub some : from < spelled.end
-  pub ends : Begins is_separator (drop spelled.end text)
+  pub stands : IsWordOf (opening (drop from text)) (drop from text) (found spelled.word (drop spelled.end text))
+  pub forward : from < spelled.end
+  pub within : spelled.end ≤ length text
+  pub boundary : IsCharBoundary text spelled.end
 
--- what stands at a place: a word, or a fault of it with the line that is given for it
-abbrev pub WordFrom : List ℕ → ℕ → ℕ → Result Spelled (At TclKind) → Type 0
-WordFrom text from line (Ok spelled) = WordAt text from spelled
-WordFrom text from line (Err fault) = BreaksWord fault.kind (drop from text) × (fault.line ≡ line)
+-- what begins at a place: a word, or a fault of it
+abbrev pub WordFrom : List ℕ → ℕ → Result Spelled TclKind → Type 0
+WordFrom text from (Ok spelled) = WordAt text from spelled
+WordFrom text from (Err kind) = IsWordOf (opening (drop from text)) (drop from text) (stops (Err kind))
 
 -- the words of a command stand from a place to its end
-pub record WordsAt (text : List ℕ) (from : ℕ) (read : Words) : Type 0 where
-  pub spelling : List ℕ
-  pub between : IsLine text from read.end spelling
-  pub words : AreWords read.words (drop from text) (drop read.end text)
-  pub ends : Begins is_end (drop read.end text)
+pub record WordsTo (text : List ℕ) (from : ℕ) (read : Words) : Type 0 where
+  pub row : AreWords read.words (drop from text) (Ok (drop read.end text))
+  pub within : read.end ≤ length text
+  pub forward : from < read.end
+  pub boundary : IsCharBoundary text read.end
 
--- what stands from a place: the words of a command, or a fault of one with the line that is given for it
-abbrev pub WordsFrom : List ℕ → ℕ → ℕ → Result Words (At TclKind) → Type 0
-WordsFrom text from line (Ok read) = WordsAt text from read
-WordsFrom text from line (Err fault) = (before : List Word) × BreaksAfter before fault.kind (drop from text) × (fault.line ≡ line)
+-- what stands from a place: the words of a command, or a fault of one
+abbrev pub WordsFrom : List ℕ → ℕ → Result Words TclKind → Type 0
+WordsFrom text from (Ok read) = WordsTo text from read
+WordsFrom text from (Err kind) = (words : List Word) × AreWords words (drop from text) (Err kind)

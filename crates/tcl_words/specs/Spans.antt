@@ -1,34 +1,33 @@
--- Runs of bytes that pass a test, by their places in a text. This project's own words for what a scanner finds.
--- Each says from where to where a run stands, and what the text goes on with.
-use Rattle.std.specs.Prelude.{◌≡◌, ◌<◌, ◌≤◌, ◌++◌, ℕ, Bool, true, false, not, List, drop, length, slice_index}
-use Rattle.sdc_model.specs.Bytes.{is_separator, line_after}
-use Rattle.sdc_model.specs.Commands.{AllAre, Begins}
-use Rattle.tcl_words.specs.declared.scan.Place.{Place}
+-- Spans of a text by their places: where what the grammar gives as the text behind something begins. This project's
+-- own words for what a scanner finds. Each says what a rest of the text is, by the place where it begins.
+use Rattle.std.specs.Prelude.{◌≡◌, ◌≤◌, ◌∷◌, ℕ, Bool, true, List, [], drop, length}
+use Rattle.std.specs.Str.{IsCharBoundary, IsUtf8}
+use Rattle.sdc_model.specs.Bytes.{is_end}
 
--- all bytes between two places pass a test
-pub record Passes (test : ℕ → Bool) (bytes : List ℕ) (from to : ℕ) : Type 0 where
-  pub run : List ℕ
-  pub passes : AllAre test run
-  pub all : drop from bytes ≡ run ++ drop to bytes
+-- from a place that cuts no character one comes to another such place
+abbrev pub Keeps : List ℕ → ℕ → ℕ → Type 0
+Keeps text from to = IsUtf8 text → IsCharBoundary text from → IsCharBoundary text to
+
+-- a rest of the text begins at a place, at or behind another one
+pub record LeadsTo (text : List ℕ) (from to : ℕ) (rest : List ℕ) : Type 0 where
+  pub is : rest ≡ drop to text
   pub forward : from ≤ to
-  pub within : to ≤ length bytes
+  pub within : to ≤ length text
+  pub keeps : Keeps text from to
 
--- they do, and the text ends there or goes on with a byte that does not
-pub record IsSpan (test : ℕ → Bool) (bytes : List ℕ) (from to : ℕ) : Type 0 where
-  pub between : Passes test bytes from to
-  pub stops : Begins (λ b. not (test b)) (drop to bytes)
+-- what one function gives from a place, another one gives from the next
+pub record Moves (first second : List ℕ → List ℕ) (text : List ℕ) (at next : ℕ) : Type 0 where
+  pub same : first (drop at text) ≡ second (drop next text)
+  pub forward : at ≤ next
+  pub within : next ≤ length text
 
--- the bytes between a place and another are separators, and the line there
-pub record PassesTo (bytes : List ℕ) (from first : ℕ) (place : Place) : Type 0 where
-  pub between : Passes is_separator bytes from place.at
-  pub line : place.line ≡ line_after between.run first
+-- what a function gives from a place it gives from the next; where both are one place, it is the text from there on
+pub record StepsTo (rest_of : List ℕ → List ℕ) (text : List ℕ) (at next : ℕ) : Type 0 where
+  pub moves : Moves rest_of rest_of text at next
+  pub stays : next ≡ at → rest_of (drop at text) ≡ drop at text
+  pub keeps : Keeps text at next
 
--- they are, and the text ends there or goes on with another byte
-pub record SkipsTo (bytes : List ℕ) (from first : ℕ) (place : Place) : Type 0 where
-  pub before : PassesTo bytes from first place
-  pub stops : Begins (λ b. not (is_separator b)) (drop place.at bytes)
-
--- whether the text ends at a place or goes on with a byte that passes a test
-abbrev pub Stands : (ℕ → Bool) → List ℕ → ℕ → Bool → Type 0
-Stands test bytes at true = Begins test (drop at bytes)
-Stands test bytes at false = (at < length bytes) × (test (slice_index bytes at) ≡ false)
+-- a command ends before this text
+abbrev pub ends_command : List ℕ → Bool
+ends_command [] = true
+ends_command (b ∷ bs) = is_end b

@@ -4,9 +4,13 @@
 //! grammar has one outcome. It leaves to others what a word's variables and scripts stand for.
 #![tactic(auto)]
 
+mod between;
 mod enclosed;
+mod gathered;
 mod laws;
+mod pieces;
 mod reader;
+mod runs;
 mod scan;
 mod spelled;
 #[cfg(test)]

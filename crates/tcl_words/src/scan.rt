@@ -1,102 +1,66 @@
-//! Runs of bytes of one kind in a text.
+//! Kinds of bytes, and what stands at a place of a text.
 
-ghost use Rattle.std.specs.Prelude.{◌≡◌, ◌≤◌, length};
-ghost use Rattle.sdc_model.specs.Bytes.{is_plain as plain, is_blank as blank, is_end as end, is_separator as separator};
-ghost use Rattle.tcl_words.specs.Spans.{IsSpan, Stands, SkipsTo};
+ghost use Rattle.std.specs.Prelude.{◌≡◌, ◌≤◌, ◌||◌, length, drop};
+ghost use Rattle.sdc_model.specs.Bytes.{is_end as end, is_space as space, leads_word as leads, begins_with};
+ghost use Rattle.sdc_model.specs.Continued.{continues as goes_on};
+ghost use Rattle.sdc_model.specs.Commands.{may_follow as follows};
+ghost use Rattle.tcl_words.specs.Spans.{ends_command};
 
-/// Whether a byte stands for itself in a bare word (Tcl, in the part that is read here).
-pub fn is_plain(byte: u8) -> bool
-    ensures { result ≡ plain byte }
+/// Whether a byte parts words: a space, a tab or a carriage return.
+pub fn is_space(byte: u8) -> bool
+    ensures { result ≡ space byte }
 {
-    byte.is_ascii_alphanumeric() || matches!(byte, b'_' | b'.' | b'+' | b'-')
+    byte == b' ' || byte == b'\t' || byte == b'\r'
 }
 
-/// Whether a byte is a space or a tab.
-pub fn is_blank(byte: u8) -> bool
-    ensures { result ≡ blank byte }
-{
-    byte == b' ' || byte == b'\t'
-}
-
-/// Whether a byte ends a command.
-fn is_end(byte: u8) -> bool
+/// Whether a byte ends a command: a newline or `;`.
+pub fn is_end(byte: u8) -> bool
     ensures { result ≡ end byte }
 {
     byte == b'\n' || byte == b';'
 }
 
-/// Whether a byte may stand between commands.
-fn is_separator(byte: u8) -> bool
-    ensures { result ≡ separator byte }
+/// Whether a word may begin behind a byte, inside brackets.
+pub fn leads_word(byte: u8) -> bool
+    ensures { result ≡ leads byte }
 {
-    is_blank(byte) || is_end(byte)
+    byte == b'[' || is_space(byte) || is_end(byte)
 }
 
-/// The place behind the blanks that stand at a place.
-pub fn blanks(bytes: &[u8], from: usize) -> usize
-    requires { from ≤ length bytes.now }
-    ensures { IsSpan blank bytes.now from result }
+/// Whether a byte stands at a place.
+pub fn stands_at(bytes: &[u8], at: usize, byte: u8) -> bool
+    ensures { result ≡ begins_with byte (drop at bytes.now) }
 {
-    let mut at = from;
-    while at < bytes.len() && is_blank(bytes[at]) {
-        at += 1;
+    at < bytes.len() && bytes[at] == byte
+}
+
+/// Whether a line is continued by a backslash before a place: a newline stands there, or a carriage return and
+/// a newline.
+pub fn continues(bytes: &[u8], at: usize) -> bool
+    requires { at ≤ length bytes.now }
+    ensures { result ≡ goes_on (drop at bytes.now) }
+{
+    if at == bytes.len() {
+        return false;
     }
-    at
+    bytes[at] == b'\n' || (bytes[at] == b'\r' && stands_at(bytes, at + 1, b'\n'))
 }
 
-/// The place behind the plain bytes that stand at a place.
-pub fn plain(bytes: &[u8], from: usize) -> usize
-    requires { from ≤ length bytes.now }
-    ensures { IsSpan plain bytes.now from result }
+/// Whether a word that a brace or quote closes may end before a place.
+pub fn may_follow(bytes: &[u8], at: usize) -> bool
+    requires { at ≤ length bytes.now }
+    ensures { result ≡ follows (drop at bytes.now) }
 {
-    let mut at = from;
-    while at < bytes.len() && is_plain(bytes[at]) {
-        at += 1;
+    if at == bytes.len() {
+        return true;
     }
-    at
-}
-
-/// A place of a text in bytes, and its line, counted from 1.
-#[derive(Clone, Copy, Debug, PartialEq, Eq)]
-pub struct Place {
-    pub at: usize,
-    pub line: u32,
-}
-
-/// The place behind the blanks and the ends of commands that stand at a place.
-pub fn separators(bytes: &[u8], from: usize, line: u32) -> Place
-    requires { from ≤ length bytes.now }
-    ensures { SkipsTo bytes.now from line result }
-{
-    let mut at = from;
-    let mut line = line;
-    while at < bytes.len() && is_separator(bytes[at]) {
-        if bytes[at] == b'\n' {
-            line = line.saturating_add(1);
-        }
-        at += 1;
-    }
-    Place { at, line }
+    is_space(bytes[at]) || is_end(bytes[at]) || (bytes[at] == b'\\' && continues(bytes, at + 1))
 }
 
 /// Whether a command ends at a place, with the text or with a byte that ends it.
 pub fn command_ends(bytes: &[u8], at: usize) -> bool
     requires { at ≤ length bytes.now }
-    ensures { Stands end bytes.now at result }
+    ensures { result ≡ ends_command (drop at bytes.now) }
 {
-    match bytes.get(at) {
-        None => true,
-        Some(byte) => is_end(*byte),
-    }
-}
-
-/// Whether a word may end at a place, with the text or before a byte that parts words.
-pub fn word_ends(bytes: &[u8], at: usize) -> bool
-    requires { at ≤ length bytes.now }
-    ensures { Stands separator bytes.now at result }
-{
-    match bytes.get(at) {
-        None => true,
-        Some(byte) => is_separator(*byte),
-    }
+    at == bytes.len() || is_end(bytes[at])
 }

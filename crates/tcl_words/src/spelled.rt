@@ -1,15 +1,18 @@
 //! One word of a text.
 
-ghost use Rattle.std.specs.Prelude.{◌≡◌, ◌<◌, ◌∷◌, [], false, length, slice_index, IfOk};
+ghost use Rattle.std.specs.Prelude.{◌≡◌, ◌<◌, ◌≤◌, true, length, drop, slice_index};
+ghost use Rattle.std.specs.Str.{IsCharBoundary};
 ghost use Rattle.sdc_base.specs.Gives.{Meets};
-ghost use Rattle.sdc_model.specs.Bytes.{is_opening, is_separator};
-ghost use Rattle.tcl_words.specs.Enclosures.{opener_of, part_of};
-ghost use Rattle.tcl_words.specs.Reads.{WordFrom};
+ghost use Rattle.tcl_words.specs.declared.runs.Form.TheVariants as form;
+ghost use Rattle.tcl_words.specs.Reads.{starts, PiecesFrom, WordFrom};
 
-use crate::enclosed::{Enclosure, closing};
-use crate::scan::{plain, word_ends};
-use sdc_base::{At, List, NoMemory, Stop, Text};
-use sdc_model::{Part, TclKind, Word};
+use crate::enclosed::{Open, closing};
+use crate::gathered::Gathered;
+use crate::pieces::{Step, piece_at};
+use crate::runs::Form;
+use crate::scan::may_follow;
+use sdc_base::Stop;
+use sdc_model::{TclKind, Word};
 use std::alloc::Global;
 
 /// A word of a text, and where its spelling ends in bytes.
@@ -19,88 +22,98 @@ pub struct Spelled {
     pub end: usize,
 }
 
-/// The word that stands at a place. Refused with the line that is given for it: as `Unclosed` where a brace or
-/// bracket has no end in the command, as `ExtraAfterBrace` where text stands right behind a closing brace, as
-/// `BadWord` where a byte stands in it that no word of its form has, or right behind a closing bracket.
-pub fn word_at(
-    alloc: Global,
-    text: &str,
-    from: usize,
-    line: u32,
-) -> Result<Spelled, Stop<At<TclKind>>>
+/// The word that stands at a place. Refused as `Unclosed` where a brace, a quote or a bracket has no end, as
+/// `ExtraAfterBrace` where text stands right behind a closing brace or quote, as `BadWord` where a variable is an
+/// element of an array.
+pub fn word_at(alloc: Global, text: &str, from: usize) -> Result<Spelled, Stop<TclKind>>
     requires within { from < length text.now }
-    requires begins { is_separator (slice_index text.now from) ≡ false }
-    ensures { Meets result (WordFrom text.now from line) }
+    requires begins { starts (drop from text.now) ≡ true }
+    requires boundary { IsCharBoundary text.now from }
+    ensures { Meets result (WordFrom text.now from) }
 {
-    match text.as_bytes()[from] {
-        b'{' => enclosed_at(alloc, text, from, line, Enclosure::Braces),
-        b'[' => enclosed_at(alloc, text, from, line, Enclosure::Brackets),
-        _ => bare_at(alloc, text, from, line),
+    let byte = text.as_bytes()[from];
+    if byte == b'{' {
+        return braced_at(alloc, text, from);
     }
+    if byte == b'"' {
+        return quoted_at(alloc, text, from);
+    }
+    bare_at(alloc, text, from)
 }
 
-/// The bare word that stands at a place. Refused with the line that is given for it, as `BadWord` where a byte
-/// stands in it that no bare word has.
-fn bare_at(alloc: Global, text: &str, from: usize, line: u32) -> Result<Spelled, Stop<At<TclKind>>>
+/// The braced word whose opening brace stands at a place.
+#[tactic(auto, using(crate::proofs::WordFacts::braced_unclosed, crate::proofs::WordFacts::braced_word, crate::proofs::WordFacts::braced_extra, crate::proofs::WordFacts::braced_whole))]
+fn braced_at(alloc: Global, text: &str, from: usize) -> Result<Spelled, Stop<TclKind>>
     requires within { from < length text.now }
-    requires begins { is_separator (slice_index text.now from) ≡ false }
-    requires bare { is_opening (slice_index text.now from) ≡ false }
-    ensures { Meets result (WordFrom text.now from line) }
+    requires opens { slice_index text.now from ≡ 123 }
+    ensures { Meets result (WordFrom text.now from) }
 {
     let bytes = text.as_bytes();
-    let end = plain(bytes, from);
-    if !word_ends(bytes, end) {
-        return Err(Stop::Refused(At {
-            line,
-            kind: TclKind::BadWord,
-        }));
+    let Some(end) = closing(alloc, bytes, from + 1, Open::Brace)? else {
+        return Err(Stop::Refused(TclKind::Unclosed));
+    };
+    let Spelled { word, .. } = inner_pieces(alloc, &text[from + 1..end - 1])?;
+    if !may_follow(bytes, end) {
+        return Err(Stop::Refused(TclKind::ExtraAfterBrace));
     }
-    let spelling = Text::from_str(alloc, &text[from..end])?;
-    let word = word_of(alloc, Part::Text(spelling))?;
     Ok(Spelled { word, end })
 }
 
-/// The word that stands in braces or brackets, which are opened at a place. Refused with the line that is given
-/// for it, as `closing` refuses.
-fn enclosed_at(
-    alloc: Global,
-    text: &str,
-    from: usize,
-    line: u32,
-    enclosure: Enclosure,
-) -> Result<Spelled, Stop<At<TclKind>>>
+/// The word of the pieces of a text that stands in braces.
+fn inner_pieces(alloc: Global, inner: &str) -> Result<Spelled, Stop<TclKind>>
+    ensures { Meets result (PiecesFrom form.Braced inner.now 0) }
+{
+    pieces_at(alloc, inner, 0, Form::Braced)
+}
+
+/// The quoted word whose opening quote stands at a place.
+#[tactic(auto, using(crate::proofs::WordFacts::quoted_word, crate::proofs::WordFacts::quoted_extra, crate::proofs::WordFacts::quoted_break))]
+fn quoted_at(alloc: Global, text: &str, from: usize) -> Result<Spelled, Stop<TclKind>>
     requires within { from < length text.now }
-    requires opens { slice_index text.now from ≡ opener_of enclosure }
-    ensures { Meets result (WordFrom text.now from line) }
+    requires opens { slice_index text.now from ≡ 34 }
+    ensures { Meets result (WordFrom text.now from) }
 {
-    let close = match closing(text.as_bytes(), from, enclosure) {
-        Ok(close) => close,
-        Err(kind) => return Err(Stop::Refused(At { line, kind })),
-    };
-    let inner = Text::from_str(alloc, &text[from + 1..close])?;
-    let word = word_of(alloc, part_in(enclosure, inner))?;
-    Ok(Spelled {
-        word,
-        end: close + 1,
-    })
-}
-
-/// The part of a word that the text in braces or brackets is.
-fn part_in(enclosure: Enclosure, inner: Text) -> Part
-    ensures { result ≡ part_of enclosure inner }
-{
-    match enclosure {
-        Enclosure::Braces => Part::Text(inner),
-        Enclosure::Brackets => Part::Script(inner),
+    let spelled = pieces_at(alloc, text, from + 1, Form::Quoted)?;
+    if !may_follow(text.as_bytes(), spelled.end) {
+        return Err(Stop::Refused(TclKind::ExtraAfterBrace));
     }
+    Ok(spelled)
 }
 
-/// The word of one part. The one error is want of memory.
-fn word_of(alloc: Global, part: Part) -> Result<Word, NoMemory>
-    ensures { IfOk result (λ word. word ≡ record { parts = part ∷ [] }) }
+/// The bare word whose first byte stands at a place.
+#[tactic(auto, using(crate::proofs::WordFacts::bare_word, crate::proofs::WordFacts::bare_break))]
+fn bare_at(alloc: Global, text: &str, from: usize) -> Result<Spelled, Stop<TclKind>>
+    requires within { from < length text.now }
+    requires begins { starts (drop from text.now) ≡ true }
+    requires no_brace { slice_index text.now from ≡ 123 → ⊥ }
+    requires no_quote { slice_index text.now from ≡ 34 → ⊥ }
+    requires boundary { IsCharBoundary text.now from }
+    ensures { Meets result (WordFrom text.now from) }
 {
-    let parts = vec![in alloc; part]?;
-    Ok(Word {
-        parts: List::from(parts),
-    })
+    let spelled = pieces_at(alloc, text, from, Form::Bare)?;
+    Ok(spelled)
+}
+
+/// The word of the pieces that stand from a place on.
+#[tactic(auto, using(crate::proofs::WordFacts::pieces_none, crate::proofs::WordFacts::pieces_more, crate::proofs::WordFacts::pieces_end, crate::proofs::WordFacts::pieces_break))]
+fn pieces_at(alloc: Global, text: &str, from: usize, form: Form) -> Result<Spelled, Stop<TclKind>>
+    requires within { from ≤ length text.now }
+    requires boundary { IsCharBoundary text.now from }
+    ensures { Meets result (PiecesFrom form text.now from) }
+{
+    let bytes = text.as_bytes();
+    let mut gathered = Gathered::new(alloc);
+    let mut at = from;
+    loop {
+        match piece_at(alloc, bytes, at, form)? {
+            Step::Ends(end) => {
+                let word = gathered.into_word()?;
+                return Ok(Spelled { word, end });
+            }
+            Step::Found(piece) => {
+                gathered.add(alloc, text, piece)?;
+                at = piece.next;
+            }
+        }
+    }
 }

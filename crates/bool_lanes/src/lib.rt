@@ -1,0 +1,20 @@
+//! Boolean functions of library cells.
+//!
+//! It gives the layer above `parse`, which reads a function's text, and `Table`, the truth table of a function of at most 10 inputs, with what known
+//! inputs make of it. It leaves to others which pins a cell has and which of them are known.
+#![tactic(auto)]
+
+mod known;
+mod names;
+#[cfg(test)]
+mod parse_tests;
+mod parsing;
+mod pending;
+mod reading;
+mod table;
+#[cfg(test)]
+mod table_tests;
+
+pub use known::Known;
+pub use parsing::parse;
+pub use table::Table;

@@ -1,0 +1,336 @@
+//! The text of a function, read byte by byte (Liberty, `function`).
+
+ghost use Rattle.std.specs.Prelude.{◌≡◌, ◌≤◌, [], length, reverse, IfOk, Some, option_map, option_and_then};
+ghost use Rattle.bool_lanes.specs.Readings.{behind_of, seen};
+ghost use Rattle.sdc_model.specs.FunctionText as spec;
+
+use crate::names::place_of;
+use crate::pending::{behind_and, behind_not, behind_or, behind_xor, nothing_open, sum_with};
+use sdc_base::{List, NoMemory, Text};
+use sdc_model::{Expr, Operand, Pending, Sign};
+use sqlite_items::Boxed;
+use std::alloc::Global;
+
+/// What is read of a text so far: the operand that stands there, what stands before it in its parentheses, and the
+/// same for each pair of parentheses around these, the outer ones first.
+#[derive(Drop)]
+pub struct Reading {
+    operand: Operand,
+    pending: Pending,
+    outer: Vec<Pending>,
+}
+
+/// What a byte of a function's text is.
+fn sign_of(byte: u8) -> Sign
+    ensures { result ≡ spec.sign_of byte }
+{
+    match byte {
+        b' ' | b'\t' | b'\n' | b'\r' => Sign::Blank,
+        b'(' => Sign::Open,
+        b')' => Sign::Close,
+        b'!' => Sign::Not,
+        b'\'' => Sign::Prime,
+        b'^' => Sign::Xor,
+        b'*' | b'&' => Sign::And,
+        b'+' | b'|' => Sign::Or,
+        _ => Sign::Letter,
+    }
+}
+
+/// What a word means among a cell's names: `0`, `1`, or the pin of that name.
+fn word_meaning(names: &[Text], word: &[u8]) -> Expr
+    requires { length names.now ≤ 60001 }
+    ensures { result ≡ spec.word_meaning names.now word.now }
+{
+    if word == b"0".as_slice() {
+        Expr::Zero
+    } else if word == b"1".as_slice() {
+        Expr::One
+    } else {
+        Expr::Pin(place_of(names, word))
+    }
+}
+
+/// The operand that ends at a place, if one does.
+fn operand_in(names: &[Text], operand: Operand) -> Option<Expr>
+    requires { length names.now ≤ 60001 }
+    ensures { result ≡ spec.operand_in names.now operand }
+{
+    match operand {
+        Operand::Due => None,
+        Operand::Word(word) => Some(word_meaning(names, word.as_slice())),
+        Operand::Stands(operand) | Operand::Apart(operand) => Some(operand),
+    }
+}
+
+/// An operand that ends before a blank.
+fn apart(operand: Option<Expr>) -> Operand
+    ensures { result ≡ spec.apart operand }
+{
+    match operand {
+        None => Operand::Due,
+        Some(operand) => Operand::Apart(operand),
+    }
+}
+
+/// A word with a byte more. The one error is want of memory.
+fn longer(word: List<u8>, byte: u8) -> Result<Operand, NoMemory>
+    ensures { IfOk result (λ o. o ≡ spec.word_with word byte) }
+{
+    let mut word = word;
+    word.push(byte)?;
+    Ok(Operand::Word(word))
+}
+
+/// An operator between two operands.
+#[derive(Clone, Copy)]
+enum Operator {
+    Xor,
+    And,
+    Or,
+}
+
+impl Operator {
+    /// What stands before the next operand behind it. The one error is want of memory.
+    fn behind(self, alloc: Global, pending: Pending, operand: Expr) -> Result<Pending, NoMemory>
+        ensures { IfOk result (λ p. p ≡ behind_of self pending operand) }
+    {
+        match self {
+            Operator::Xor => behind_xor(alloc, pending, operand),
+            Operator::And => behind_and(alloc, pending, operand),
+            Operator::Or => behind_or(alloc, pending, operand),
+        }
+    }
+}
+
+/// A word that begins with a byte. The one error is want of memory.
+fn word_from(
+    alloc: Global,
+    pending: Pending,
+    outer: Vec<Pending>,
+    byte: u8,
+) -> Result<Option<Reading>, NoMemory>
+    ensures { IfOk result (λ o. option_map seen o ≡ Some (record { operand = spec.word_with [] byte; pending = pending; outer = reverse outer.items })) }
+{
+    let operand = longer(List::new(alloc), byte)?;
+    Ok(Some(Reading {
+        operand,
+        pending,
+        outer,
+    }))
+}
+
+impl Reading {
+    /// Nothing.
+    fn nothing(alloc: Global) -> Reading
+        ensures { seen result ≡ spec.nothing_read }
+    {
+        Reading {
+            operand: Operand::Due,
+            pending: nothing_open(alloc),
+            outer: Vec::new(alloc),
+        }
+    }
+
+    /// This, where an operand may begin: where one is due, or behind blanks, which then mean and.
+    fn begins(self, alloc: Global) -> Result<Option<Reading>, NoMemory>
+        ensures { IfOk result (λ o. option_map seen o ≡ spec.begins self.operand self.pending (seen self).outer) }
+    {
+        let Reading {
+            operand,
+            pending,
+            outer,
+        } = self;
+        match operand {
+            Operand::Due => Ok(Some(Reading {
+                operand: Operand::Due,
+                pending,
+                outer,
+            })),
+            Operand::Apart(left) => {
+                let pending = behind_and(alloc, pending, left)?;
+                Ok(Some(Reading {
+                    operand: Operand::Due,
+                    pending,
+                    outer,
+                }))
+            }
+            Operand::Word(_) | Operand::Stands(_) => Ok(None),
+        }
+    }
+
+    /// This and a byte of a word, where a word may go on or begin.
+    fn with_letter(self, alloc: Global, byte: u8) -> Result<Option<Reading>, NoMemory>
+        ensures { IfOk result (λ o. option_map seen o ≡ spec.with_letter byte self.operand self.pending (seen self).outer) }
+    {
+        let Reading {
+            operand,
+            pending,
+            outer,
+        } = self;
+        match operand {
+            Operand::Word(word) => {
+                let operand = longer(word, byte)?;
+                Ok(Some(Reading {
+                    operand,
+                    pending,
+                    outer,
+                }))
+            }
+            Operand::Due => word_from(alloc, pending, outer, byte),
+            Operand::Apart(left) => {
+                let pending = behind_and(alloc, pending, left)?;
+                word_from(alloc, pending, outer, byte)
+            }
+            Operand::Stands(_) => Ok(None),
+        }
+    }
+
+    /// This and a blank, before which an operand ends.
+    fn with_blank(self, names: &[Text]) -> Reading
+        requires { length names.now ≤ 60001 }
+        ensures { seen result ≡ spec.with_blank names.now (seen self) }
+    {
+        Reading {
+            operand: apart(operand_in(names, self.operand)),
+            pending: self.pending,
+            outer: self.outer,
+        }
+    }
+
+    /// This and `(`, where an operand may begin.
+    fn opened(self, alloc: Global) -> Result<Option<Reading>, NoMemory>
+        ensures { IfOk result (λ o. option_map seen o ≡ option_map spec.opened (spec.begins self.operand self.pending (seen self).outer)) }
+    {
+        let Some(begun) = self.begins(alloc)? else {
+            return Ok(None);
+        };
+        let mut outer = begun.outer;
+        outer.push(begun.pending)?;
+        Ok(Some(Reading {
+            operand: Operand::Due,
+            pending: nothing_open(alloc),
+            outer,
+        }))
+    }
+
+    /// This and `!`, where an operand may begin.
+    fn denied(self, alloc: Global) -> Result<Option<Reading>, NoMemory>
+        ensures { IfOk result (λ o. option_map seen o ≡ option_map spec.denied (spec.begins self.operand self.pending (seen self).outer)) }
+    {
+        let Some(begun) = self.begins(alloc)? else {
+            return Ok(None);
+        };
+        Ok(Some(Reading {
+            operand: Operand::Due,
+            pending: behind_not(begun.pending)?,
+            outer: begun.outer,
+        }))
+    }
+
+    /// This and `)`, where an operand ends in parentheses.
+    fn closed(self, alloc: Global, names: &[Text]) -> Result<Option<Reading>, NoMemory>
+        requires { length names.now ≤ 60001 }
+        ensures { IfOk result (λ o. option_map seen o ≡ option_and_then (spec.closed self.pending (seen self).outer) (spec.operand_in names.now self.operand)) }
+    {
+        let Some(operand) = operand_in(names, self.operand) else {
+            return Ok(None);
+        };
+        let mut outer = self.outer;
+        let Some(around) = outer.pop() else {
+            return Ok(None);
+        };
+        let inside = sum_with(alloc, self.pending, operand)?;
+        Ok(Some(Reading {
+            operand: Operand::Stands(inside),
+            pending: around,
+            outer,
+        }))
+    }
+
+    /// This and `'`, where an operand ends.
+    fn primed(self, alloc: Global, names: &[Text]) -> Result<Option<Reading>, NoMemory>
+        requires { length names.now ≤ 60001 }
+        ensures { IfOk result (λ o. option_map seen o ≡ option_map (spec.primed self.pending (seen self).outer) (spec.operand_in names.now self.operand)) }
+    {
+        let Some(operand) = operand_in(names, self.operand) else {
+            return Ok(None);
+        };
+        let operand = Boxed::new(alloc, operand)?;
+        Ok(Some(Reading {
+            operand: Operand::Stands(Expr::Not(operand)),
+            pending: self.pending,
+            outer: self.outer,
+        }))
+    }
+
+    /// This and an operator between two operands, where one ends.
+    fn operated(
+        self,
+        alloc: Global,
+        names: &[Text],
+        operator: Operator,
+    ) -> Result<Option<Reading>, NoMemory>
+        requires { length names.now ≤ 60001 }
+        ensures { IfOk result (λ o. option_map seen o ≡ option_map (spec.behind (behind_of operator) self.pending (seen self).outer) (spec.operand_in names.now self.operand)) }
+    {
+        let Some(operand) = operand_in(names, self.operand) else {
+            return Ok(None);
+        };
+        Ok(Some(Reading {
+            operand: Operand::Due,
+            pending: operator.behind(alloc, self.pending, operand)?,
+            outer: self.outer,
+        }))
+    }
+
+    /// This and a byte more, if the text can go on with it. The one error is want of memory.
+    fn step(self, alloc: Global, names: &[Text], byte: u8) -> Result<Option<Reading>, NoMemory>
+        requires { length names.now ≤ 60001 }
+        ensures { IfOk result (λ o. option_map seen o ≡ spec.step names.now (seen self) (spec.sign_of byte) byte) }
+    {
+        match sign_of(byte) {
+            Sign::Letter => self.with_letter(alloc, byte),
+            Sign::Blank => Ok(Some(self.with_blank(names))),
+            Sign::Open => self.opened(alloc),
+            Sign::Not => self.denied(alloc),
+            Sign::Close => self.closed(alloc, names),
+            Sign::Prime => self.primed(alloc, names),
+            Sign::Xor => self.operated(alloc, names, Operator::Xor),
+            Sign::And => self.operated(alloc, names, Operator::And),
+            Sign::Or => self.operated(alloc, names, Operator::Or),
+        }
+    }
+
+    /// The expression that a whole text is, where an operand stands at its end and no parentheses are open. The one
+    /// error is want of memory.
+    fn ended(self, alloc: Global, names: &[Text]) -> Result<Option<Expr>, NoMemory>
+        requires { length names.now ≤ 60001 }
+        ensures { IfOk result (λ o. o ≡ spec.ended names.now (seen self)) }
+    {
+        let Some(operand) = operand_in(names, self.operand) else {
+            return Ok(None);
+        };
+        if !self.outer.is_empty() {
+            return Ok(None);
+        }
+        let whole = sum_with(alloc, self.pending, operand)?;
+        Ok(Some(whole))
+    }
+}
+
+/// The expression that a text is, where it is one, each word in it being `0`, `1` or a name by its place among a
+/// cell's names (Liberty, `function`). The one error is want of memory.
+pub fn expression(alloc: Global, names: &[Text], text: &[u8]) -> Result<Option<Expr>, NoMemory>
+    requires { length names.now ≤ 60001 }
+    ensures { IfOk result (λ o. o ≡ spec.expression names.now text.now) }
+{
+    let mut reading = Reading::nothing(alloc);
+    for byte in text {
+        let Some(next) = reading.step(alloc, names, *byte)? else {
+            return Ok(None);
+        };
+        reading = next;
+    }
+    reading.ended(alloc, names)
+}

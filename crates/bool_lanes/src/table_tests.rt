@@ -1,0 +1,124 @@
+//! Tables of small functions, and of chains of ten inputs, with values computed by hand.
+
+use crate::{Known, Table, parse};
+use sdc_base::{List, NoMemory, Stop, Text};
+use sdc_model::Expr;
+use std::alloc::Global;
+use std::test::Fail;
+
+/// The function of a text over the inputs `A`, `B` and so on, or another one where it is none.
+fn function_of(alloc: Global, text: &str) -> Result<Expr, NoMemory> {
+    let mut names = List::new(alloc);
+    for name in "A B C D E F G H I J".split(' ') {
+        names.push(Text::from_str(alloc, name)?)?;
+    }
+    match parse(alloc, text, &names) {
+        Ok(Some(expr)) => Ok(expr),
+        Ok(None) | Err(Stop::Refused(_)) => Ok(Expr::Zero),
+        Err(Stop::NoMemory) => Err(NoMemory),
+    }
+}
+
+/// The values of a function's table in the order of its completions, as `0` and `1`.
+fn show_table(alloc: Global, text: &str, inputs: u8) -> Result<String, NoMemory> {
+    let expr = function_of(alloc, text)?;
+    let table = Table::of(&expr, inputs);
+    let mut shown = String::new(alloc);
+    for completion in 0..(1_u16 << inputs) {
+        let known = Known {
+            mask: (1 << inputs) - 1,
+            value: completion,
+        };
+        shown.push_str(match table.forced(&known) {
+            Some(false) => "0",
+            Some(true) => "1",
+            None => "?",
+        })?;
+    }
+    Ok(shown)
+}
+
+#[test]
+fn functions_of_two_inputs(rt: HostRuntime) -> Result<(), Fail> {
+    for (text, wanted) in [
+        ("0", "0000"),
+        ("!(A + B)", "1000"),
+        ("A B'", "0100"),
+        ("!B", "1100"),
+        ("A' B", "0010"),
+        ("!A", "1010"),
+        ("A ^ B", "0110"),
+        ("!(A B)", "1110"),
+        ("A B", "0001"),
+        ("!(A ^ B)", "1001"),
+        ("A", "0101"),
+        ("A + B'", "1101"),
+        ("B", "0011"),
+        ("A' + B", "1011"),
+        ("A + B", "0111"),
+        ("1", "1111"),
+    ] {
+        assert_eq!(rt; show_table(rt.alloc(), text, 2)?.as_str(), wanted);
+    }
+    Ok(())
+}
+
+#[test]
+fn multiplexer_with_known_inputs(rt: HostRuntime) -> Result<(), Fail> {
+    let expr = function_of(rt.alloc(), "(A C') + (B C)")?;
+    let table = Table::of(&expr, 3);
+    let select_zero = Known { mask: 4, value: 0 };
+    assert_eq!(rt; table.forced(&select_zero), None);
+    assert!(rt; table.depends(0, &select_zero));
+    assert!(rt; !table.depends(1, &select_zero));
+    let both_one = Known { mask: 3, value: 3 };
+    assert_eq!(rt; table.forced(&both_one), Some(true));
+    assert!(rt; !table.depends(2, &both_one));
+    // bits of inputs that there are not, and values that are not known, say nothing
+    let more_bits = Known {
+        mask: 0xfffb,
+        value: 0xfff7,
+    };
+    assert_eq!(rt; table.forced(&more_bits), Some(true));
+    Ok(())
+}
+
+#[test]
+fn chains_of_ten_inputs(rt: HostRuntime) -> Result<(), Fail> {
+    let alloc = rt.alloc();
+    let all = 0x3ff;
+    let nothing = Known { mask: 0, value: 0 };
+    let and = Table::of(&function_of(alloc, "A B C D E F G H I J")?, 10);
+    let or = Table::of(&function_of(alloc, "A+B+C+D+E+F+G+H+I+J")?, 10);
+    let xor = Table::of(&function_of(alloc, "A^B^C^D^E^F^G^H^I^J")?, 10);
+    for pin in 0..10_u8 {
+        let others = all - (1 << pin);
+        let zero = Known {
+            mask: 1 << pin,
+            value: 0,
+        };
+        let one = Known {
+            mask: 1 << pin,
+            value: all,
+        };
+        let others_one = Known {
+            mask: others,
+            value: all,
+        };
+        assert_eq!(rt; and.forced(&zero), Some(false));
+        assert_eq!(rt; and.forced(&one), None);
+        assert_eq!(rt; or.forced(&zero), None);
+        assert_eq!(rt; or.forced(&one), Some(true));
+        assert_eq!(rt; xor.forced(&others_one), None);
+        assert!(rt; and.depends(pin, &nothing));
+        assert!(rt; and.depends(pin, &others_one));
+        assert!(rt; !or.depends(pin, &others_one));
+        assert!(rt; xor.depends(pin, &others_one));
+    }
+    let parity = Known {
+        mask: all,
+        value: 0x155,
+    };
+    assert_eq!(rt; xor.forced(&parity), Some(true));
+    Ok(())
+}

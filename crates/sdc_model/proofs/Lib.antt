@@ -1,0 +1,9 @@
+mod BuiltGraphs
+mod CandidatePaths
+mod InnerNodes
+mod LimitExamples
+mod OneWinner
+mod Requirements
+mod TwoRegisters
+mod WaveExamples
+mod WinnerExamples

@@ -1,0 +1,65 @@
+-- Of two exceptions not both stand before the other, so no two of them win.
+use Rattle.std.proofs.Common.{◌≡◌, ◌≢◌, ℕ, ◌<◌, List, sym, ap, inl, inr, arith}
+use Rattle.std.specs.Prelude.{◌⊎◌, ℤ}
+use Rattle.std.proofs.lemmas.Bool.{cases_lt}
+use Rattle.std.proofs.lemmas.Int.{ints}
+use Rattle.sdc_model.specs.declared.constraints.ExCommand.{ExCommand}
+use Rattle.sdc_model.specs.declared.constraints.Exception.{Exception}
+use Rattle.sdc_model.specs.declared.paths.Periods.{Periods}
+use Rattle.sdc_model.specs.declared.pins.Side.{Side}
+use Rattle.sdc_model.specs.declared.pins.Side.TheVariants.{Setup, Hold}
+use Rattle.sdc_model.specs.Winner.{command_rank, flags, IsStricter, IsWinner, resulting_of, StandsBefore}
+
+same_or_not : (a b : ℕ) → (a ≡ b) ⊎ (a ≢ b)
+same_or_not a b = elim (cases_lt a b) [
+  | inl less ↦ inr (λ e. absurd (omega arith))
+  | inr more ↦ elim (cases_lt b a) [ inl less ↦ inr (λ e. absurd (omega arith)) | inr equal ↦ inl (omega arith) ]
+]
+
+strict_apart : (side : Side) (a b : ℤ) → IsStricter side a b → IsStricter side b a → ⊥
+strict_apart Setup a b one other = omega (arith, ints)
+strict_apart Hold a b one other = omega (arith, ints)
+
+strict_other : (side : Side) (a b : ℤ) → IsStricter side a b → b ≡ a → ⊥
+strict_other Setup a b one same = omega (arith, ints)
+strict_other Hold a b one same = omega (arith, ints)
+
+-- the strictness and the place
+last_apart : (side : Side) (a b : ℤ) (p q : ℕ) → (IsStricter side a b ⊎ ((a ≡ b) × (p < q))) → (IsStricter side b a ⊎ ((b ≡ a) × (q < p))) → ⊥
+last_apart side a b p q (inl one) (inl other) = strict_apart side a b one other
+last_apart side a b p q (inl one) (inr other) = strict_other side a b one other.0
+last_apart side a b p q (inr one) (inl other) = strict_other side b a other one.0
+last_apart side a b p q (inr one) (inr other) = let less : p < q = one.1 in let more : q < p = other.1 in omega arith
+
+-- the flags, before what comes behind them
+flags_apart : (A B : Type 0) (m n : ℕ) → (A → B → ⊥) → ((n < m) ⊎ ((m ≡ n) × A)) → ((m < n) ⊎ ((n ≡ m) × B)) → ⊥
+flags_apart A B m n apart (inl one) (inl other) = omega arith
+flags_apart A B m n apart (inl one) (inr other) = let same : n ≡ m = other.0 in omega arith
+flags_apart A B m n apart (inr one) (inl other) = let same : m ≡ n = one.0 in omega arith
+flags_apart A B m n apart (inr one) (inr other) = apart one.1 other.1
+
+-- the commands, before what comes behind them
+commands_apart : (A B : Type 0) (c d : ExCommand) → (A → B → ⊥) → ((command_rank d < command_rank c) ⊎ ((c ≡ d) × A))
+    → ((command_rank c < command_rank d) ⊎ ((d ≡ c) × B)) → ⊥
+commands_apart A B c d apart (inl one) (inl other) = omega arith
+commands_apart A B c d apart (inl one) (inr other) = let same : command_rank d ≡ command_rank c = ap command_rank other.0 in omega arith
+commands_apart A B c d apart (inr one) (inl other) = let same : command_rank c ≡ command_rank d = ap command_rank one.0 in omega arith
+commands_apart A B c d apart (inr one) (inr other) = apart one.1 other.1
+
+before_apart : (side : Side) (periods : Periods) (e : Exception) (p : ℕ) (f : Exception) (q : ℕ)
+    → StandsBefore side periods e p f q → StandsBefore side periods f q e p → ⊥
+before_apart side periods e p f q one other =
+    let a = resulting_of periods e in
+    let b = resulting_of periods f in
+    commands_apart ((flags f < flags e) ⊎ ((flags e ≡ flags f) × (IsStricter side a b ⊎ ((a ≡ b) × (p < q)))))
+    ((flags e < flags f) ⊎ ((flags f ≡ flags e) × (IsStricter side b a ⊎ ((b ≡ a) × (q < p))))) e.command f.command
+    (flags_apart (IsStricter side a b ⊎ ((a ≡ b) × (p < q))) (IsStricter side b a ⊎ ((b ≡ a) × (q < p))) (flags e) (flags f)
+    (last_apart side a b p q)) one other
+
+pub one_winner : (exceptions : List Exception) (Match : ℕ → Type 0) (side : Side) (periods : Periods) (place other : ℕ)
+    → IsWinner exceptions Match side periods place → IsWinner exceptions Match side periods other → place ≡ other
+one_winner exceptions Match side periods place other one two = elim (same_or_not place other) [
+  | inl same ↦ same
+  | inr apart ↦ absurd (before_apart side periods one.exception place two.exception other
+      (one.best other two.exception two.is two.matches (λ e. apart (sym e))) (two.best place one.exception one.is one.matches apart))
+]

@@ -1,0 +1,186 @@
+-- Well-formed modes over a design: what reading a constraint file gives (SDC 2.1). The bounds of numbers and the orders of
+-- lists are this project's own.
+-- It reads part by part: clocks, exclusive pairs, case values, disables, port delays, exceptions and kept commands.
+use Rattle.std.specs.Prelude.{◌≡◌, ◌<◌, ◌≤◌, ◌^◌, ◌⊎◌, ℕ, ℤ, pos, unsigned_abs, Bool, false, List, [], ◌∷◌, length, map, Option, Some, None, slice_get}
+use Rattle.std.specs.List.{All, Contains}
+use Rattle.sdc_model.specs.declared.clocks.Clock.{Clock}
+use Rattle.sdc_model.specs.declared.clocks.Early.{Early}
+use Rattle.sdc_model.specs.declared.clocks.Form.{Form}
+use Rattle.sdc_model.specs.declared.clocks.Form.TheVariants.{Primary, Generated}
+use Rattle.sdc_model.specs.declared.clocks.Latency.{Latency}
+use Rattle.sdc_model.specs.declared.clocks.Shape.{Shape}
+use Rattle.sdc_model.specs.declared.clocks.Shape.TheVariants.{Divide, Multiply, Edges}
+use Rattle.sdc_model.specs.declared.constraints.CaseSet.{CaseSet}
+use Rattle.sdc_model.specs.declared.constraints.Disable.{Disable}
+use Rattle.sdc_model.specs.declared.constraints.Disable.TheVariants as disable
+use Rattle.sdc_model.specs.declared.constraints.ExCommand.{ExCommand}
+use Rattle.sdc_model.specs.declared.constraints.ExCommand.TheVariants.{FalsePath, Delay, Multicycle}
+use Rattle.sdc_model.specs.declared.constraints.Exception.{Exception}
+use Rattle.sdc_model.specs.declared.constraints.IoDelay.{IoDelay}
+use Rattle.sdc_model.specs.declared.constraints.Points.{Points}
+use Rattle.sdc_model.specs.declared.constraints.Points.TheVariants as points
+use Rattle.sdc_model.specs.declared.constraints.Through.{Through}
+use Rattle.sdc_model.specs.declared.designs.CellInfo.{CellInfo}
+use Rattle.sdc_model.specs.declared.designs.Design.{Design}
+use Rattle.sdc_model.specs.declared.library_cells.LibArc.{LibArc}
+use Rattle.sdc_model.specs.declared.library_cells.LibCell.{LibCell}
+use Rattle.sdc_model.specs.declared.modes.Mode.{Mode}
+use Rattle.sdc_model.specs.declared.objects.Kept.{Kept}
+use Rattle.sdc_model.specs.declared.pins.Pin.{Pin}
+use Rattle.sdc_model.specs.Arrival.{EdgeStandsBefore}
+use Rattle.sdc_model.specs.KeptCommands.{IsKeptOf}
+use Rattle.sdc_model.specs.Nodes.{IsInputPort, IsOutputPort, IsPort, IsCell, cell_pin}
+use Rattle.sdc_model.specs.PrintedFile.{ArePairs, IsPrintableWave}
+use Rattle.sdc_model.specs.TimingGraph.{IsChecked, IsLaunching}
+use Rattle.sdc_model.specs.WellFormedDesign.{AreGoodNames}
+
+-- ---- numbers and lists
+
+abbrev pub IsTime : ℤ → Type 0
+IsTime time = unsigned_abs time ≤ 10 ^ 12
+
+abbrev pub IsTimeOrNone : Option ℤ → Type 0
+IsTimeOrNone None = Unit {0}
+IsTimeOrNone (Some time) = IsTime time
+
+-- each item stands before the next one and every later one
+abbrev pub Rises : {X : Type 0} → (X → X → Type 0) → List X → Type 0
+Rises {X} Before xs = (i j : ℕ) (x y : X) → i < j → slice_get xs i ≡ Some x → slice_get xs j ≡ Some y → Before x y
+
+-- at least one pin of the design, in order, each once, each with a property; the same of clocks
+abbrev pub ArePins : (ℕ → Type 0) → Design → List Pin → Type 0
+ArePins Is design pins =
+    (0 < length pins) × Rises (λ (pin : Pin) (other : Pin). pin.0 < other.0) pins
+    × All (λ (pin : Pin). (pin.0 < length design.pins) × Is pin.0) pins
+
+abbrev pub AnyPin : ℕ → Type 0
+AnyPin pin = Unit {0}
+
+abbrev pub AreClocks : Mode → List ℕ → Type 0
+AreClocks mode clocks = (0 < length clocks) × Rises (λ clock other. clock < other) clocks × All (λ clock. clock < length mode.clocks) clocks
+
+-- ---- clocks
+
+abbrev pub AreValues : Early → Type 0
+AreValues values = IsTime values.rise × IsTime values.fall
+
+abbrev pub IsLatency : Latency → Type 0
+IsLatency latency =
+    AreValues latency.source_early × AreValues latency.source_late × AreValues latency.network_early × AreValues latency.network_late
+
+-- a number by which a clock is divided or multiplied, or of an edge
+abbrev pub IsShapeNumber : ℕ → Type 0
+IsShapeNumber n = (1 ≤ n) × (n ≤ 1000000)
+
+abbrev pub IsShape : Shape → Type 0
+IsShape (Divide n) = IsShapeNumber n
+IsShape (Multiply n) = IsShapeNumber n
+IsShape (Edges rise fall next) = (1 ≤ rise) × (rise < fall) × (fall < next) × (next ≤ 1000000)
+
+abbrev pub IsMaster : Mode → Option ℕ → Type 0
+IsMaster mode None = Unit {0}
+IsMaster mode (Some master) = master < length mode.clocks
+
+-- a clock without sources has a waveform of its own; a source is any pin
+abbrev pub IsFormOf : Design → Mode → Form → List Pin → Type 0
+IsFormOf design mode (Primary wave) [] = IsPrintableWave wave
+IsFormOf design mode (Primary wave) (pin ∷ pins) = IsPrintableWave wave × ArePins AnyPin design (pin ∷ pins)
+IsFormOf design mode (Generated source master shape invert) sources =
+    (source.0 < length design.pins) × IsMaster mode master × IsShape shape × ArePins AnyPin design sources
+
+pub record IsWellFormedClock (design : Design) (mode : Mode) (clock : Clock) : Type 0 where
+  pub form : IsFormOf design mode clock.form clock.sources
+  pub latency : IsLatency clock.latency
+  pub setup_uncertainty : IsTime clock.setup_uncertainty
+  pub hold_uncertainty : IsTime clock.hold_uncertainty
+
+-- ---- disables
+
+-- a library arc joins two pins of a cell
+pub record AreJoined (design : Design) (from to : Pin) : Type 0 where
+  pub place : ℕ
+  pub cell : CellInfo
+  pub kind : LibCell
+  pub arc : LibArc
+  pub is_cell : IsCell design place cell kind
+  pub is_arc : Contains kind.arcs arc
+  pub from_pin : from.0 ≡ cell_pin cell arc.from
+  pub to_pin : to.0 ≡ cell_pin cell arc.to
+
+abbrev pub IsDisable : Design → Disable → Type 0
+IsDisable design (disable.Pin line pin) = pin.0 < length design.pins
+IsDisable design (disable.Between line from to) = AreJoined design from to
+
+-- pins stand by pin, then pairs by where they come from and where they go
+abbrev pub DisableBefore : Disable → Disable → Type 0
+DisableBefore (disable.Pin line pin) (disable.Pin other_line other) = pin.0 < other.0
+DisableBefore (disable.Pin line pin) (disable.Between other_line from to) = Unit {0}
+DisableBefore (disable.Between line from to) (disable.Pin other_line other) = ⊥
+DisableBefore (disable.Between line from to) (disable.Between other_line other_from other_to) =
+    (from.0 < other_from.0) ⊎ ((from.0 ≡ other_from.0) × (to.0 < other_to.0))
+
+-- ---- delays of ports
+
+abbrev pub HasValue : Option ℤ → Type 0
+HasValue value = (time : ℤ) × (value ≡ Some time)
+
+pub record IsWellFormedDelay (design : Design) (mode : Mode) (delay : IoDelay) : Type 0 where
+  pub port : IsPort design delay.port.0
+  pub clock : delay.clock.clock < length mode.clocks
+  pub greatest : IsTimeOrNone delay.max_rise × IsTimeOrNone delay.max_fall
+  pub least : IsTimeOrNone delay.min_rise × IsTimeOrNone delay.min_fall
+  pub some_value : HasValue delay.max_rise ⊎ (HasValue delay.max_fall ⊎ (HasValue delay.min_rise ⊎ HasValue delay.min_fall))
+
+-- by port, clock and edge, so that no port has two delays to one clock edge
+abbrev pub DelayBefore : IoDelay → IoDelay → Type 0
+DelayBefore delay other =
+    (delay.port.0 < other.port.0) ⊎ ((delay.port ≡ other.port) × EdgeStandsBefore delay.clock other.clock)
+
+-- ---- exceptions
+
+abbrev pub IsStartOf : Design → ℕ → Type 0
+IsStartOf design pin = IsInputPort design pin ⊎ IsLaunching design pin
+
+abbrev pub IsEndOf : Design → ℕ → Type 0
+IsEndOf design pin = IsOutputPort design pin ⊎ IsChecked design pin
+
+-- the points of an end: pins that paths begin or end at, or clocks
+abbrev pub ArePoints : (ℕ → Type 0) → Design → Mode → Option Points → Type 0
+ArePoints Is design mode None = Unit {0}
+ArePoints Is design mode (Some (points.Pins edge pins)) = ArePins Is design pins
+ArePoints Is design mode (Some (points.Clocks edge clocks)) = AreClocks mode clocks
+
+-- something is said of where a path goes
+abbrev pub SaysWhere : Option Points → List Through → Option Points → Type 0
+SaysWhere None [] None = ⊥
+SaysWhere from through to = Unit {0}
+
+-- a false path has no value, and a multicycle alone counts launch periods
+abbrev pub IsValueOf : ExCommand → ℤ → Bool → Type 0
+IsValueOf FalsePath value by_launch = (value ≡ pos 0) × (by_launch ≡ false)
+IsValueOf Delay value by_launch = (unsigned_abs value ≤ 10 ^ 16) × (by_launch ≡ false)
+IsValueOf Multicycle value by_launch = unsigned_abs value ≤ 1000
+
+pub record IsWellFormedException (design : Design) (mode : Mode) (exception : Exception) : Type 0 where
+  pub value : IsValueOf exception.command exception.value exception.by_launch
+  pub from : ArePoints (IsStartOf design) design mode exception.from
+  pub to : ArePoints (IsEndOf design) design mode exception.to
+  pub few : length exception.through ≤ 6
+  pub through : All (λ (list : Through). ArePins AnyPin design list.pins) exception.through
+  pub says : SaysWhere exception.from exception.through exception.to
+
+-- ---- the mode
+
+pub record IsWellFormedMode (design : Design) (mode : Mode) : Type 0 where
+  pub few : length mode.clocks ≤ 16384
+  pub clocks : All (IsWellFormedClock design mode) mode.clocks
+  pub names : AreGoodNames (map (λ (clock : Clock). clock.name) mode.clocks)
+  pub exclusive : ArePairs (length mode.clocks) mode.exclusive
+  pub cases : All (λ (set : CaseSet). set.pin.0 < length design.pins) mode.cases
+  pub case_order : Rises (λ (set : CaseSet) (other : CaseSet). set.pin.0 < other.pin.0) mode.cases
+  pub disabled : All (IsDisable design) mode.disabled
+  pub disable_order : Rises DisableBefore mode.disabled
+  pub delays : All (IsWellFormedDelay design mode) mode.delays
+  pub delay_order : Rises DelayBefore mode.delays
+  pub exceptions : All (IsWellFormedException design mode) mode.exceptions
+  pub kept : All (λ (kept : Kept). IsKeptOf design (length mode.clocks) kept.words) mode.kept

@@ -1,0 +1,119 @@
+//! Classes of paths: what all paths through a design have in common that limits look at. This project's own.
+
+use crate::constraints::Exception;
+use crate::graphs::Graph;
+use crate::pins::{ClockEdge, Node};
+use sdc_base::{Bits, Duplicate, List, NoMemory};
+use std::alloc::Global;
+
+/// A start of paths with a clock edge that launches there.
+#[derive(Clone, Copy, Debug, PartialEq, Eq, PartialOrd, Ord)]
+pub struct Launched {
+    pub start: Node,
+    pub launch: ClockEdge,
+}
+
+impl Duplicate for Launched {
+    fn copy(&self, _alloc: Global) -> Result<Launched, NoMemory> {
+        Ok(*self)
+    }
+}
+
+/// How far a path has come in the through lists of an exception.
+#[derive(Clone, Copy, Debug, PartialEq, Eq, PartialOrd, Ord)]
+pub struct Met {
+    /// The place of the exception in its pool.
+    pub exception: u32,
+    /// How many of its lists are met in order: at least one.
+    pub lists: u8,
+}
+
+impl Duplicate for Met {
+    fn copy(&self, _alloc: Global) -> Result<Met, NoMemory> {
+        Ok(*self)
+    }
+}
+
+/// A class of paths from a start to a node.
+#[derive(Debug, Drop, PartialEq, Eq, PartialOrd, Ord)]
+pub struct Class {
+    pub launch: ClockEdge,
+    pub start: Node,
+    /// Bit m says whether all arcs so far are alive in mode m.
+    pub modes: u16,
+    /// By exception, those with through lists whose `from` holds and of which a list is met.
+    pub progress: List<Met>,
+}
+
+impl Duplicate for Class {
+    fn copy(&self, alloc: Global) -> Result<Class, NoMemory> {
+        let launch = self.launch.copy(alloc)?;
+        let start = self.start.copy(alloc)?;
+        let modes = self.modes.copy(alloc)?;
+        let progress = self.progress.copy(alloc)?;
+        Ok(Class {
+            launch,
+            start,
+            modes,
+            progress,
+        })
+    }
+}
+
+/// The classes of all paths to each node, the nodes by number, each class once.
+#[derive(Debug, Drop, PartialEq, Eq)]
+pub struct ClassSets {
+    pub at: List<List<Class>>,
+}
+
+impl Duplicate for ClassSets {
+    fn copy(&self, alloc: Global) -> Result<ClassSets, NoMemory> {
+        let at = self.at.copy(alloc)?;
+        Ok(ClassSets { at })
+    }
+}
+
+/// What classes are found over: a graph in topological order, with the arcs that are alive in the run and in each
+/// mode, the starts of paths, and the exceptions of all modes.
+#[derive(Debug, Drop)]
+pub struct Pool {
+    pub graph: Graph,
+    pub order: List<Node>,
+    /// One truth value an arc.
+    pub alive: Bits,
+    /// One truth value an arc, by mode: at most 16 modes.
+    pub modes: List<Bits>,
+    pub starts: List<Launched>,
+    pub exceptions: List<Exception>,
+}
+
+impl Duplicate for Pool {
+    fn copy(&self, alloc: Global) -> Result<Pool, NoMemory> {
+        let graph = self.graph.copy(alloc)?;
+        let order = self.order.copy(alloc)?;
+        let alive = self.alive.copy(alloc)?;
+        let modes = self.modes.copy(alloc)?;
+        let starts = self.starts.copy(alloc)?;
+        let exceptions = self.exceptions.copy(alloc)?;
+        Ok(Pool {
+            graph,
+            order,
+            alive,
+            modes,
+            starts,
+            exceptions,
+        })
+    }
+}
+
+/// More classes than this were found.
+#[derive(Clone, Copy, Debug, PartialEq, Eq)]
+pub struct Budget {
+    pub limit: u64,
+}
+
+impl Duplicate for Budget {
+    fn copy(&self, _alloc: Global) -> Result<Budget, NoMemory> {
+        Ok(*self)
+    }
+}

@@ -1,0 +1,185 @@
+//! Modules of a netlist (IEEE 1364-2005), in the part of the language that is read here.
+
+use crate::library_cells::Direction;
+use sdc_base::{Duplicate, List, NoMemory, Text};
+use std::alloc::Global;
+
+/// The range of a vector, as it is written: from the left bit to the right one.
+#[derive(Clone, Copy, Debug, PartialEq, Eq)]
+pub struct Range {
+    pub left: u32,
+    pub right: u32,
+}
+
+impl Duplicate for Range {
+    fn copy(&self, _alloc: Global) -> Result<Range, NoMemory> {
+        Ok(*self)
+    }
+}
+
+/// A port of a module.
+#[derive(Debug, Drop, PartialEq, Eq)]
+pub struct Port {
+    pub name: Text,
+    pub direction: Direction,
+    pub range: Option<Range>,
+}
+
+impl Duplicate for Port {
+    fn copy(&self, alloc: Global) -> Result<Port, NoMemory> {
+        let name = self.name.copy(alloc)?;
+        let direction = self.direction.copy(alloc)?;
+        let range = self.range.copy(alloc)?;
+        Ok(Port {
+            name,
+            direction,
+            range,
+        })
+    }
+}
+
+/// A net of a module, with the value that it is tied to where it is a supply.
+#[derive(Debug, Drop, PartialEq, Eq)]
+pub struct Wire {
+    pub name: Text,
+    pub range: Option<Range>,
+    pub tie: Option<bool>,
+}
+
+impl Duplicate for Wire {
+    fn copy(&self, alloc: Global) -> Result<Wire, NoMemory> {
+        let name = self.name.copy(alloc)?;
+        let range = self.range.copy(alloc)?;
+        let tie = self.tie.copy(alloc)?;
+        Ok(Wire { name, range, tie })
+    }
+}
+
+/// A bit of a connection: of a net, or a constant, which has no value where it is `x` or `z`.
+#[derive(Debug, Drop, PartialEq, Eq)]
+pub enum Bit {
+    Net { name: Text, index: Option<u32> },
+    Constant(Option<bool>),
+}
+
+/// A named connection of an instance, its bits from the leftmost on.
+#[derive(Debug, Drop, PartialEq, Eq)]
+pub struct Link {
+    pub port: Text,
+    pub bits: List<Bit>,
+}
+
+impl Duplicate for Link {
+    fn copy(&self, alloc: Global) -> Result<Link, NoMemory> {
+        let port = self.port.copy(alloc)?;
+        let bits = self.bits.copy(alloc)?;
+        Ok(Link { port, bits })
+    }
+}
+
+/// The connections of an instance, by order or by name. A connection without bits is empty.
+#[derive(Debug, Drop, PartialEq, Eq)]
+pub enum Links {
+    Ordered(List<List<Bit>>),
+    Named(List<Link>),
+}
+
+/// An instance of a module or a library cell.
+#[derive(Debug, Drop, PartialEq, Eq)]
+pub struct Instance {
+    pub line: u32,
+    pub kind: Text,
+    pub name: Text,
+    pub links: Links,
+}
+
+impl Duplicate for Instance {
+    fn copy(&self, alloc: Global) -> Result<Instance, NoMemory> {
+        let line = self.line.copy(alloc)?;
+        let kind = self.kind.copy(alloc)?;
+        let name = self.name.copy(alloc)?;
+        let links = self.links.copy(alloc)?;
+        Ok(Instance {
+            line,
+            kind,
+            name,
+            links,
+        })
+    }
+}
+
+/// An `assign`: the bits on its left are driven by those on its right.
+#[derive(Debug, Drop, PartialEq, Eq)]
+pub struct Assign {
+    pub left: List<Bit>,
+    pub right: List<Bit>,
+}
+
+impl Duplicate for Assign {
+    fn copy(&self, alloc: Global) -> Result<Assign, NoMemory> {
+        let left = self.left.copy(alloc)?;
+        let right = self.right.copy(alloc)?;
+        Ok(Assign { left, right })
+    }
+}
+
+/// A module. Its nets begin with its ports, in order.
+#[derive(Debug, Drop, PartialEq, Eq)]
+pub struct Module {
+    pub name: Text,
+    pub line: u32,
+    pub ports: List<Port>,
+    pub nets: List<Wire>,
+    pub instances: List<Instance>,
+    pub assigns: List<Assign>,
+}
+
+impl Duplicate for Module {
+    fn copy(&self, alloc: Global) -> Result<Module, NoMemory> {
+        let name = self.name.copy(alloc)?;
+        let line = self.line.copy(alloc)?;
+        let ports = self.ports.copy(alloc)?;
+        let nets = self.nets.copy(alloc)?;
+        let instances = self.instances.copy(alloc)?;
+        let assigns = self.assigns.copy(alloc)?;
+        Ok(Module {
+            name,
+            line,
+            ports,
+            nets,
+            instances,
+            assigns,
+        })
+    }
+}
+
+impl Duplicate for Bit {
+    fn copy(&self, alloc: Global) -> Result<Bit, NoMemory> {
+        match self {
+            Bit::Net { name, index } => {
+                let name = name.copy(alloc)?;
+                let index = index.copy(alloc)?;
+                Ok(Bit::Net { name, index })
+            }
+            Bit::Constant(value) => {
+                let value = value.copy(alloc)?;
+                Ok(Bit::Constant(value))
+            }
+        }
+    }
+}
+
+impl Duplicate for Links {
+    fn copy(&self, alloc: Global) -> Result<Links, NoMemory> {
+        match self {
+            Links::Ordered(connections) => {
+                let connections = connections.copy(alloc)?;
+                Ok(Links::Ordered(connections))
+            }
+            Links::Named(links) => {
+                let links = links.copy(alloc)?;
+                Ok(Links::Named(links))
+            }
+        }
+    }
+}

@@ -1,0 +1,314 @@
+-- Pieces of a word and words of a command, one behind the other.
+use Rattle.std.proofs.Common.{◌≡◌, ◌<◌, ◌≤◌, ◌+◌, ◌-◌, ◌==◌, ◌++◌, ◌||◌, ◌&&◌, inl, inr, ◌⊎◌, ℕ, Bool, true, false, not, List, [], ◌∷◌, Option, Some, None, Result, Ok, Err, drop, take, length, get_or, if◌then◌else◌, refl, sym, ap, subst, ◌∙◌, arith, append_assoc}
+use Rattle.std.proofs.lemmas.Bool.{cases_Bool, both_ways, eqb-true, ne_eqb, or_parts, not_from_false, not-true}
+use Rattle.std.proofs.lemmas.List.{drop_more, length-drop, append-nil}
+use Rattle.std.specs.Str.{IsCharBoundary, IsUtf8}
+use Rattle.sdc_base.specs.Gives.{Meets}
+use Rattle.sdc_base.specs.declared.memory.Stop.{Stop}
+use Rattle.sdc_base.specs.declared.memory.Stop.TheVariants.{NoMemory, Refused}
+use Rattle.sdc_model.specs.declared.commands.Word.{Word}
+use Rattle.sdc_model.specs.declared.kinds.TclKind.{TclKind}
+use Rattle.sdc_model.specs.declared.kinds.TclKind.TheVariants.{BadWord, ExtraAfterBrace, Unclosed}
+use Rattle.sdc_model.specs.declared.commands.Part.TheVariants as part
+use Rattle.sdc_model.specs.Bytes.{before, begins_with, behind, front, is_end, is_name_byte, is_space}
+use Rattle.sdc_model.specs.Commands.{ArePieces, AreWords, IsBare, IsBraced, IsQuoted, IsWordOf, StandsWord, WordFront, bare_opens, brace_opens, command_end, ended_bare, ended_closed, may_follow, opening, quote_opens}
+use Rattle.sdc_model.specs.Continued.{Between, behind_gap, comment, continues, from_command, parting, taken}
+use Rattle.sdc_model.specs.Enclosed.{behind_brace, behind_bracket}
+use Rattle.sdc_model.specs.Pieces as grammar
+use Rattle.sdc_model.specs.Row.{Row, found, stops}
+use Rattle.sdc_model.specs.WordParts.{with_piece, with_pieces, word_of, word_of_pieces}
+use Rattle.sdc_model.specs.WordParts as parts
+use Rattle.tcl_words.specs.declared.gathered.Gathered.{Gathered}
+use Rattle.tcl_words.specs.declared.pieces.Piece.{Piece}
+use Rattle.tcl_words.specs.declared.pieces.Step.{Step}
+use Rattle.tcl_words.specs.declared.pieces.Step.TheVariants.{Ends, Found}
+use Rattle.tcl_words.specs.declared.reader.Words.{Words}
+use Rattle.tcl_words.specs.declared.runs.Form.{Form}
+use Rattle.tcl_words.specs.declared.runs.Form.TheVariants.{Bare, Braced, Quoted}
+use Rattle.tcl_words.specs.declared.spelled.Spelled.{Spelled}
+use Rattle.tcl_words.specs.Forms.{form_of}
+use Rattle.tcl_words.specs.GatheredParts.{gathered_of, no_parts}
+use Rattle.tcl_words.specs.Nests.{ClosesAt}
+use Rattle.tcl_words.specs.Reads.{PiecesFrom, PiecesTo, WordAt, WordFrom, WordsFrom, WordsTo, starts}
+use Rattle.tcl_words.specs.Spans.{LeadsTo, ends_command}
+use Rattle.tcl_words.specs.Steps.{Lies, StepAt, between, piece_of}
+
+-- ---- pieces
+
+with_last : (so_far : parts.Gathered) (pieces : List grammar.Piece) (piece : grammar.Piece) → with_pieces so_far (pieces ++ piece ∷ []) ≡ with_piece (with_pieces so_far pieces) piece
+with_last so_far [] piece = refl
+with_last so_far (p ∷ pieces) piece = with_last (with_piece so_far p) pieces piece
+
+-- pieces were read up to a place; with those that stand from there on they are all
+pub record PiecesSoFar (form : Form) (text : List ℕ) (from at : ℕ) (gathered : Gathered) : Type 0 where
+  pub pieces : List grammar.Piece
+  pub parts : gathered_of gathered ≡ with_pieces no_parts pieces
+  pub row : (more : List grammar.Piece) (end : Result (List ℕ) TclKind) → ArePieces (form_of form) more (drop at text) end → ArePieces (form_of form) (pieces ++ more) (drop from text) end
+  pub within : at ≤ length text
+  pub forward : from ≤ at
+  pub further : (pieces ≡ []) ⊎ (from < at)
+  pub boundary : IsCharBoundary text at
+
+pub pieces_none : (form : Form) (text : List ℕ) (from : ℕ) (gathered : Gathered) → gathered_of gathered ≡ no_parts → from ≤ length text → IsCharBoundary text from → PiecesSoFar form text from from gathered
+pieces_none form text from gathered e within boundary = record {
+  pieces = [];
+  parts = e;
+  row = λ more end r. r;
+  within = within;
+  forward = omega arith;
+  further = inl refl;
+  boundary = boundary;
+}
+
+pub pieces_more : (form : Form) (text : List ℕ) (from at : ℕ) (gathered next : Gathered) (piece : Piece) → IsUtf8 text → PiecesSoFar form text from at gathered → StepAt (grammar.piece_at (form_of form) (drop at text)) text at (Ok (Found piece)) → gathered_of next ≡ with_piece (gathered_of gathered) (piece_of text piece) → PiecesSoFar form text from piece.next next
+pieces_more form text from at gathered next piece utf8 so_far step e = record {
+  pieces = so_far.pieces ++ piece_of text piece ∷ [];
+  parts = e ∙ (ap (λ (g : parts.Gathered). with_piece g (piece_of text piece)) so_far.parts ∙ sym (with_last no_parts so_far.pieces (piece_of text piece)));
+  row = λ more end r.
+      subst (λ (ps : List grammar.Piece). ArePieces (form_of form) ps (drop from text) end) (sym (append_assoc so_far.pieces (piece_of text piece ∷ []) more))
+      (so_far.row (piece_of text piece ∷ more) end (drop piece.next text, step.0, r));
+  within = step.1.within;
+  forward = omega (arith, so_far.forward, step.1.forward);
+  further = inr (omega (arith, so_far.forward, step.1.forward));
+  boundary = step.1.keeps_next utf8 so_far.boundary;
+}
+
+pub pieces_end : (form : Form) (text : List ℕ) (from at to : ℕ) (gathered : Gathered) (word : Word) → IsUtf8 text → PiecesSoFar form text from at gathered → StepAt (grammar.piece_at (form_of form) (drop at text)) text at (Ok (Ends to)) → word ≡ word_of (gathered_of gathered) → PiecesTo form text from (record { word = word; end = to })
+pieces_end form text from at to gathered word utf8 so_far step e = record {
+  pieces = so_far.pieces;
+  row = subst (λ (ps : List grammar.Piece). ArePieces (form_of form) ps (drop from text) (Ok (drop to text))) (append-nil so_far.pieces) (so_far.row [] (Ok (drop to text)) step.0);
+  word = e ∙ ap word_of so_far.parts;
+  within = step.2;
+  forward = omega (arith, so_far.forward, step.1);
+  further = longer so_far.further;
+  boundary = step.3 utf8 so_far.boundary;
+} where
+  longer : (so_far.pieces ≡ []) ⊎ (from < at) → (so_far.pieces ≡ []) ⊎ (from < to)
+  longer (inl none) = inl none
+  longer (inr less) = inr (omega (arith, less, step.1))
+
+pub pieces_break : (form : Form) (text : List ℕ) (from at : ℕ) (gathered : Gathered) (kind : TclKind) → PiecesSoFar form text from at gathered → StepAt (grammar.piece_at (form_of form) (drop at text)) text at (Err kind) → PiecesFrom form text from (Err kind)
+pieces_break form text from at gathered kind so_far step =
+    (so_far.pieces, subst (λ (ps : List grammar.Piece). ArePieces (form_of form) ps (drop from text) (Err kind)) (append-nil so_far.pieces) (so_far.row [] (Err kind) step))
+
+pub pieces_stop : (form : Form) (text : List ℕ) (from at : ℕ) (gathered : Gathered) (stop : Stop TclKind) → PiecesSoFar form text from at gathered → Meets {T = Step} (Err stop) (StepAt (grammar.piece_at (form_of form) (drop at text)) text at) → Meets {T = Spelled} (Err stop) (PiecesFrom form text from)
+pieces_stop form text from at gathered (Refused kind) so_far m = pieces_break form text from at gathered kind so_far m
+pieces_stop form text from at gathered NoMemory so_far m = tt
+
+-- ---- words by their first byte
+
+opens_brace : (b : ℕ) (bs : List ℕ) → b ≡ 123 → opening (b ∷ bs) ≡ brace_opens bs
+opens_brace b bs e = ap (λ (c : ℕ). opening (c ∷ bs)) e
+
+opens_quote : (b : ℕ) (bs : List ℕ) → b ≡ 34 → opening (b ∷ bs) ≡ quote_opens bs
+opens_quote b bs e = ap (λ (c : ℕ). opening (c ∷ bs)) e
+
+opens_bare : (b : ℕ) (bs : List ℕ) → is_end b ≡ false → (b == 123) ≡ false → (b == 34) ≡ false → opening (b ∷ bs) ≡ bare_opens
+opens_bare b bs p q r = rw (p, q, r) refl
+
+brace_here : (text : List ℕ) (from : ℕ) → from < length text → get_or text from 0 ≡ 123 → opening (drop from text) ≡ brace_opens (drop (from + 1) text)
+brace_here text from within e = ap opening (drop_more text from 0 within) ∙ opens_brace (get_or text from 0) (drop (from + 1) text) e
+
+quote_here : (text : List ℕ) (from : ℕ) → from < length text → get_or text from 0 ≡ 34 → opening (drop from text) ≡ quote_opens (drop (from + 1) text)
+quote_here text from within e = ap opening (drop_more text from 0 within) ∙ opens_quote (get_or text from 0) (drop (from + 1) text) e
+
+-- a quoted word
+pub quoted_word : (text : List ℕ) (from : ℕ) (spelled : Spelled) → from < length text → get_or text from 0 ≡ 34 → PiecesTo Quoted text (from + 1) spelled → may_follow (drop spelled.end text) ≡ true → WordAt text from spelled
+quoted_word text from spelled within e p follows = record {
+  stands = subst (λ o. IsWordOf o (drop from text) (found spelled.word (drop spelled.end text))) (sym (quote_here text from within e))
+      (p.pieces, Ok (drop spelled.end text), p.row, closed (drop spelled.end text) follows);
+  forward = omega (arith, p.forward);
+  within = p.within;
+  boundary = p.boundary;
+} where
+  closed : (rest : List ℕ) → may_follow rest ≡ true → found spelled.word rest ≡ ended_closed p.pieces (Ok rest)
+  closed rest h = rw (h, p.word) refl
+
+pub quoted_extra : (text : List ℕ) (from : ℕ) (spelled : Spelled) → from < length text → get_or text from 0 ≡ 34 → PiecesTo Quoted text (from + 1) spelled → may_follow (drop spelled.end text) ≡ false → WordFrom text from (Err ExtraAfterBrace)
+quoted_extra text from spelled within e p follows =
+    subst (λ o. IsWordOf o (drop from text) (stops (Err ExtraAfterBrace))) (sym (quote_here text from within e))
+    (p.pieces, Ok (drop spelled.end text), p.row, extra (drop spelled.end text) follows) where
+      extra : (rest : List ℕ) → may_follow rest ≡ false → stops (Err ExtraAfterBrace) ≡ ended_closed p.pieces (Ok rest)
+      extra rest h = rw h refl
+
+pub quoted_break : (text : List ℕ) (from : ℕ) (kind : TclKind) → from < length text → get_or text from 0 ≡ 34 → PiecesFrom Quoted text (from + 1) (Err kind) → WordFrom text from (Err kind)
+quoted_break text from kind within e p =
+    subst (λ o. IsWordOf o (drop from text) (stops (Err kind))) (sym (quote_here text from within e)) (p.0, Err kind, p.1, refl)
+
+-- a braced word
+pub braced_unclosed : (text : List ℕ) (from : ℕ) → from < length text → get_or text from 0 ≡ 123 → behind_brace (drop (from + 1) text) ≡ None → WordFrom text from (Err Unclosed)
+braced_unclosed text from within e none =
+    subst (λ o. IsWordOf o (drop from text) (stops (Err Unclosed))) (sym (brace_here text from within e))
+    (subst (λ o. IsBraced (drop (from + 1) text) o (stops (Err Unclosed))) (sym none) refl)
+
+braced_backslash : (rest after : List ℕ) → grammar.behind_backslash grammar.braced rest ≡ stops (Ok after) → ⊥
+braced_backslash [] after e = cc
+braced_backslash (b ∷ bs) after e = elim (cases_Bool (continues (b ∷ bs))) [
+  | inl p ↦ let f : grammar.continued grammar.braced (b ∷ bs) ≡ stops (Ok after) = rw p at e in cc
+  | inr p ↦ let f : grammar.escaped grammar.braced b bs ≡ stops (Ok after) = rw p at e in cc
+]
+
+-- a text of braces is read to its end
+inner_stop : (inner rest : List ℕ) → grammar.piece_at grammar.braced inner ≡ stops (Ok rest) → rest ≡ []
+unfolding grammar.piece_at
+inner_stop [] rest e =
+    let f : ◌≡◌ {A = Result (List ℕ) TclKind} (Ok []) (Ok rest) = cc in
+    let g : ◌≡◌ {A = List ℕ} [] rest = cc in sym g
+inner_stop (b ∷ bs) rest e = elim (cases_Bool (b == 92)) [
+  | inl p ↦ let f : grammar.behind_backslash grammar.braced bs ≡ stops (Ok rest) = rw p at e in absurd (braced_backslash bs rest f)
+  | inr p ↦ let f : grammar.with_run grammar.braced (b ∷ []) bs ≡ stops (Ok rest) = rw p at e in absurd (no_stop f)
+] where
+  no_stop : grammar.with_run grammar.braced (b ∷ []) bs ≡ stops (Ok rest) → ⊥
+  no_stop f = cc
+
+inner_end : (pieces : List grammar.Piece) (inner rest : List ℕ) → ArePieces grammar.braced pieces inner (Ok rest) → rest ≡ []
+inner_end [] inner rest r = inner_stop inner rest r
+inner_end (p ∷ pieces) inner rest r = inner_end pieces r.0 rest r.2
+
+braced_backslash_breaks : (rest : List ℕ) (kind : TclKind) → grammar.behind_backslash grammar.braced rest ≡ stops (Err kind) → ⊥
+braced_backslash_breaks [] kind e = cc
+braced_backslash_breaks (b ∷ bs) kind e = elim (cases_Bool (continues (b ∷ bs))) [
+  | inl p ↦ let f : grammar.continued grammar.braced (b ∷ bs) ≡ stops (Err kind) = rw p at e in cc
+  | inr p ↦ let f : grammar.escaped grammar.braced b bs ≡ stops (Err kind) = rw p at e in cc
+]
+
+inner_unbroken : (inner : List ℕ) (kind : TclKind) → grammar.piece_at grammar.braced inner ≡ stops (Err kind) → ⊥
+unfolding grammar.piece_at
+inner_unbroken [] kind e = cc
+inner_unbroken (b ∷ bs) kind e = elim (cases_Bool (b == 92)) [
+  | inl p ↦ let f : grammar.behind_backslash grammar.braced bs ≡ stops (Err kind) = rw p at e in braced_backslash_breaks bs kind f
+  | inr p ↦ let f : grammar.with_run grammar.braced (b ∷ []) bs ≡ stops (Err kind) = rw p at e in cc
+]
+
+-- and never breaks
+inner_whole : (pieces : List grammar.Piece) (inner : List ℕ) (kind : TclKind) → ArePieces grammar.braced pieces inner (Err kind) → ⊥
+inner_whole [] inner kind r = inner_unbroken inner kind r
+inner_whole (p ∷ pieces) inner kind r = inner_whole pieces r.0 kind r.2
+
+pub braced_whole : (text inner : List ℕ) (from : ℕ) (kind : TclKind) → PiecesFrom Braced inner 0 (Err kind) → WordFrom text from (Err kind)
+braced_whole text inner from kind p = absurd (inner_whole p.0 inner kind p.1)
+
+pub braced_stop : (text inner : List ℕ) (from : ℕ) (stop : Stop TclKind) → Meets {T = Spelled} (Err stop) (PiecesFrom Braced inner 0) → Meets {T = Spelled} (Err stop) (WordFrom text from)
+braced_stop text inner from (Refused kind) m = braced_whole text inner from kind m
+braced_stop text inner from NoMemory m = tt
+
+braced_front : (text : List ℕ) (from to : ℕ) (front : WordFront) → ClosesAt text (from + 1) to (behind_brace (drop (from + 1) text)) → from < length text → get_or text from 0 ≡ 123 → IsBraced (drop (from + 1) text) (Some (drop to text)) front → IsWordOf (opening (drop from text)) (drop from text) front
+braced_front text from to front c within e b =
+    subst (λ o. IsWordOf o (drop from text) front) (sym (brace_here text from within e))
+    (subst (λ o. IsBraced (drop (from + 1) text) o front) (sym c.is) b)
+
+inner_is : (text : List ℕ) (from to : ℕ) → from + 1 < to → to ≤ length text → before (drop (from + 1) text) (125 ∷ drop to text) ≡ between text (from + 1) (to - 1)
+inner_is text from to less within =
+    let n : length (drop (from + 1) text) - length (125 ∷ drop to text) ≡ to - 1 - (from + 1) = omega (arith, less, within, length-drop (from + 1) text, length-drop to text) in
+    ap (λ (k : ℕ). take k (drop (from + 1) text)) n
+
+inner_row : (text inner : List ℕ) (from to : ℕ) (spelled : Spelled) → ClosesAt text (from + 1) to (behind_brace (drop (from + 1) text)) → inner ≡ between text (from + 1) (to - 1) → (p : PiecesTo Braced inner 0 spelled) → ArePieces grammar.braced p.pieces (before (drop (from + 1) text) (125 ∷ drop to text)) (Ok [])
+inner_row text inner from to spelled c e p =
+    let whole : ArePieces grammar.braced p.pieces inner (Ok []) = subst (λ (t : List ℕ). ArePieces grammar.braced p.pieces inner (Ok t)) (inner_end p.pieces inner (drop spelled.end inner) p.row) p.row in
+    subst (λ (t : List ℕ). ArePieces grammar.braced p.pieces t (Ok [])) (e ∙ sym (inner_is text from to c.forward c.within)) whole
+
+pub braced_word : (text inner : List ℕ) (from to : ℕ) (spelled : Spelled) → IsUtf8 text → from < length text → get_or text from 0 ≡ 123 → ClosesAt text (from + 1) to (behind_brace (drop (from + 1) text)) → inner ≡ between text (from + 1) (to - 1) → PiecesTo Braced inner 0 spelled → may_follow (drop to text) ≡ true → WordAt text from (record { word = spelled.word; end = to })
+braced_word text inner from to spelled utf8 within e c i p follows = record {
+  stands = braced_front text from to (found spelled.word (drop to text)) c within e (p.pieces, inner_row text inner from to spelled c i p, closed (drop to text) follows);
+  forward = omega (arith, c.forward);
+  within = c.within;
+  boundary = c.behind utf8;
+} where
+  closed : (rest : List ℕ) → may_follow rest ≡ true → found spelled.word rest ≡ ended_closed p.pieces (Ok rest)
+  closed rest h = rw (h, p.word) refl
+
+pub braced_extra : (text inner : List ℕ) (from to : ℕ) (spelled : Spelled) → from < length text → get_or text from 0 ≡ 123 → ClosesAt text (from + 1) to (behind_brace (drop (from + 1) text)) → inner ≡ between text (from + 1) (to - 1) → PiecesTo Braced inner 0 spelled → may_follow (drop to text) ≡ false → WordFrom text from (Err ExtraAfterBrace)
+braced_extra text inner from to spelled within e c i p follows =
+    braced_front text from to (stops (Err ExtraAfterBrace)) c within e (p.pieces, inner_row text inner from to spelled c i p, extra (drop to text) follows) where
+      extra : (rest : List ℕ) → may_follow rest ≡ false → stops (Err ExtraAfterBrace) ≡ ended_closed p.pieces (Ok rest)
+      extra rest h = rw h refl
+
+-- ---- a bare word
+
+plain_goes : (rest after : List ℕ) → grammar.plain_dollar rest ≡ stops (Ok after) → ⊥
+plain_goes [] after e = cc
+plain_goes (b ∷ bs) after e = elim (cases_Bool (b == 123)) [
+  | inl p ↦ let f : grammar.braced_variable (front (λ c. not (c == 125)) bs) (behind (λ c. not (c == 125)) bs) ≡ stops (Ok after) = rw p at e in variable (front (λ c. not (c == 125)) bs) (behind (λ c. not (c == 125)) bs) f
+  | inr p ↦ let f : found (grammar.text (36 ∷ [])) (b ∷ bs) ≡ stops (Ok after) = rw p at e in cc
+] where
+  variable : (name more : List ℕ) → grammar.braced_variable name more ≡ stops (Ok after) → ⊥
+  variable name [] f = cc
+  variable name (c ∷ cs) f = cc
+
+dollar_goes : (name rest after : List ℕ) → grammar.behind_dollar name rest ≡ stops (Ok after) → ⊥
+dollar_goes [] rest after e = plain_goes rest after e
+dollar_goes (b ∷ bs) rest after e = elim (cases_Bool (begins_with 40 rest)) [
+  | inl p ↦ let f : stops (Err BadWord) ≡ stops (Ok after) = rw p at e in cc
+  | inr p ↦ let f : found (grammar.other (part.Variable (b ∷ bs))) rest ≡ stops (Ok after) = rw p at e in cc
+]
+
+script_goes : (inside : List ℕ) (o : Option (List ℕ)) (after : List ℕ) → grammar.behind_opening inside o ≡ stops (Ok after) → ⊥
+script_goes inside None after e = cc
+script_goes inside (Some rest) after e = cc
+
+substituted_goes : (b : ℕ) (rest after : List ℕ) → grammar.substituted b rest ≡ stops (Ok after) → ⊥
+substituted_goes b rest after e = elim (cases_Bool (b == 36)) [
+  | inl p ↦ let f : grammar.behind_dollar (front is_name_byte rest) (behind is_name_byte rest) ≡ stops (Ok after) = rw p at e in dollar_goes (front is_name_byte rest) (behind is_name_byte rest) after f
+  | inr p ↦ let f : grammar.behind_opening rest (behind_bracket rest) ≡ stops (Ok after) = rw p at e in script_goes rest (behind_bracket rest) after f
+]
+
+escaped_goes : (b : ℕ) (rest after : List ℕ) → grammar.escaped grammar.bare b rest ≡ stops (Ok after) → ⊥
+escaped_goes b rest after e = elim (cases_Bool (b == 110)) [
+  | inl p ↦ let f : found (grammar.text (10 ∷ [])) rest ≡ stops (Ok after) = rw p at e in cc
+  | inr p ↦ elim (cases_Bool (b == 116)) [
+    | inl q ↦ let f : found (grammar.text (9 ∷ [])) rest ≡ stops (Ok after) = rw (p, q) at e in cc
+    | inr q ↦ let f : grammar.with_run grammar.bare (b ∷ []) rest ≡ stops (Ok after) = rw (p, q) at e in cc
+  ]
+]
+
+backslash_goes : (rest after : List ℕ) → continues rest ≡ false → grammar.behind_backslash grammar.bare rest ≡ stops (Ok after) → ⊥
+backslash_goes [] after h e = cc
+backslash_goes (b ∷ bs) after h e = let f : grammar.escaped grammar.bare b bs ≡ stops (Ok after) = rw h at e in escaped_goes b bs after f
+
+-- a byte of a word begins a piece
+bare_goes : (b : ℕ) (bs after : List ℕ) → starts (b ∷ bs) ≡ true → grammar.piece_at grammar.bare (b ∷ bs) ≡ stops (Ok after) → ⊥
+unfolding grammar.piece_at
+bare_goes b bs after s e =
+    let none = or_parts (is_space b || is_end b) (b == 92 && continues bs) (not-true (is_space b || is_end b || (b == 92 && continues bs)) s) in
+    elim (cases_Bool (b == 92)) [
+      | inl p ↦
+          let h : continues bs ≡ false = rw p at none.1 in
+          let f : grammar.behind_backslash grammar.bare bs ≡ stops (Ok after) = rw (none.0, p) at e in
+          backslash_goes bs after h f
+      | inr p ↦ elim (cases_Bool (b == 36 || b == 91)) [
+        | inl q ↦ let f : grammar.substituted b bs ≡ stops (Ok after) = rw (none.0, p, q) at e in substituted_goes b bs after f
+        | inr q ↦ let f : grammar.with_run grammar.bare (b ∷ []) bs ≡ stops (Ok after) = rw (none.0, p, q) at e in cc
+      ]
+    ]
+
+-- what a text from a place begins with
+starts_within : (text : List ℕ) (from : ℕ) → starts (drop from text) ≡ true → from < length text → starts (get_or text from 0 ∷ drop (from + 1) text) ≡ true
+starts_within text from s within = subst (λ (t : List ℕ). starts t ≡ true) (drop_more text from 0 within) s
+
+bare_here : (text : List ℕ) (from : ℕ) → from < length text → starts (drop from text) ≡ true → (get_or text from 0 ≡ 123 → ⊥) → (get_or text from 0 ≡ 34 → ⊥) → opening (drop from text) ≡ bare_opens
+bare_here text from within s no_brace no_quote =
+    let b : ℕ = get_or text from 0 in
+    let none = or_parts (is_space (get_or text from 0) || is_end (get_or text from 0)) (get_or text from 0 == 92 && continues (drop (from + 1) text))
+    (not-true (is_space (get_or text from 0) || is_end (get_or text from 0) || (get_or text from 0 == 92 && continues (drop (from + 1) text))) (starts_within text from s within)) in
+    let ends = or_parts (is_space (get_or text from 0)) (is_end (get_or text from 0)) none.0 in
+    ap opening (drop_more text from 0 within)
+    ∙ opens_bare (get_or text from 0) (drop (from + 1) text) ends.1 (ne_eqb (get_or text from 0) 123 no_brace) (ne_eqb (get_or text from 0) 34 no_quote)
+
+pub bare_word : (text : List ℕ) (from : ℕ) (spelled : Spelled) → from < length text → starts (drop from text) ≡ true → (get_or text from 0 ≡ 123 → ⊥) → (get_or text from 0 ≡ 34 → ⊥) → PiecesTo Bare text from spelled → WordAt text from spelled
+bare_word text from spelled within s no_brace no_quote p = record {
+  stands = subst (λ o. IsWordOf o (drop from text) (found spelled.word (drop spelled.end text))) (sym (bare_here text from within s no_brace no_quote))
+      (p.pieces, Ok (drop spelled.end text), p.row, ap (λ (w : Word). found w (drop spelled.end text)) p.word);
+  forward = longer p.further;
+  within = p.within;
+  boundary = p.boundary;
+} where
+  longer : (p.pieces ≡ []) ⊎ (from < spelled.end) → from < spelled.end
+  longer (inr less) = less
+  longer (inl none) =
+      let row : ArePieces grammar.bare [] (drop from text) (Ok (drop spelled.end text)) = subst (λ (ps : List grammar.Piece). ArePieces grammar.bare ps (drop from text) (Ok (drop spelled.end text))) none p.row in
+      absurd (bare_goes (get_or text from 0) (drop (from + 1) text) (drop spelled.end text) (starts_within text from s within)
+      (subst (λ (t : List ℕ). grammar.piece_at grammar.bare t ≡ stops (Ok (drop spelled.end text))) (drop_more text from 0 within) row))
+
+pub bare_break : (text : List ℕ) (from : ℕ) (kind : TclKind) → from < length text → starts (drop from text) ≡ true → (get_or text from 0 ≡ 123 → ⊥) → (get_or text from 0 ≡ 34 → ⊥) → PiecesFrom Bare text from (Err kind) → WordFrom text from (Err kind)
+bare_break text from kind within s no_brace no_quote p =
+    subst (λ o. IsWordOf o (drop from text) (stops (Err kind))) (sym (bare_here text from within s no_brace no_quote)) (p.0, Err kind, p.1, refl)

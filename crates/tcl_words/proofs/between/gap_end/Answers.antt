@@ -1,0 +1,7 @@
+use Rattle.std.proofs.Common.{false}
+use Rattle.sdc_model.specs.Continued.{behind_gap}
+use Rattle.tcl_words.proofs.GapFacts.{gap_nil, reached_end}
+use Rattle.tcl_words.proofs.between.gap_end.Goals as goal
+
+pub returns : goal.returns
+returns c = reached_end (behind_gap false) c.args.bytes.now c.args.from c.loop-at.at gap_nil c.loop-at.invariant c.loop-at-test.false
