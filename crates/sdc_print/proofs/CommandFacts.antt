@@ -47,7 +47,7 @@ are_more_words (word ∷ words) rest s =
     let after = more_text words ++ (10 ∷ rest) in (
       after,
       subst (λ (t : List ℕ). StandsWord t (found (word_of word) after)) (sym (ap (λ (l : List ℕ). 32 ∷ l) (append_assoc (spelled word) (more_text words) (10 ∷ rest))))
-        (behind_blank (spelled word ++ after) (found (word_of word) after) (s.0.stands after (parts_words words rest))),
+          (behind_blank (spelled word ++ after) (found (word_of word) after) (s.0.stands after (parts_words words rest))),
       are_more_words words rest s.1,
     )
 
@@ -99,16 +99,16 @@ is_first skipped (word ∷ words) rest line p h s =
     let front : CommandFront = found (command_of begin (word ∷ words)) (record { text = 10 ∷ rest; line = line_after (words_text (word ∷ words)) begin }) in
     let whole : skipped ++ (line_text (word ∷ words) ++ rest) ≡ skipped ++ body = ap (λ (l : List ℕ). skipped ++ l) (append_assoc (words_text (word ∷ words)) (codes "\n") rest) in
     let starts : from_command parting (skipped ++ body) ≡ body =
-      from_skipped skipped body p ∙ (ap (from_command parting) (line_is word words rest) ∙ (s.0.first after (parts_words words rest) ∙ sym (line_is word words rest))) in
+    from_skipped skipped body p ∙ (ap (from_command parting) (line_is word words rest) ∙ (s.0.first after (parts_words words rest) ∙ sym (line_is word words rest))) in
     let long : 0 < length body = omega (arith, ap length (line_is word words rest), length-append (spelled word) after, s.0.some) in
     let place : Place = record { text = body; line = begin } in
     let here : IsCommand body place front =
-      command_here body place front (map word_of (word ∷ words)) (Ok (10 ∷ rest)) long (are_words word words rest s)
-      (ap (λ (t : List ℕ). found (command_of begin (word ∷ words)) (record { text = 10 ∷ rest; line = line_after t begin })) (sym (before_is (words_text (word ∷ words)) (10 ∷ rest)))) in
+    command_here body place front (map word_of (word ∷ words)) (Ok (10 ∷ rest)) long (are_words word words rest s)
+    (ap (λ (t : List ℕ). found (command_of begin (word ∷ words)) (record { text = 10 ∷ rest; line = line_after t begin })) (sym (before_is (words_text (word ∷ words)) (10 ∷ rest)))) in
     let lined : IsCommand body (record { text = body; line = line_after (before (skipped ++ body) body) line }) front =
-      subst (λ (t : List ℕ). IsCommand body (record { text = body; line = line_after t line }) front) (sym (before_is skipped body)) here in
+    subst (λ (t : List ℕ). IsCommand body (record { text = body; line = line_after t line }) front) (sym (before_is skipped body)) here in
     let placed : IsFirst (skipped ++ body) line (command_of begin (word ∷ words)) (10 ∷ rest) (line_after (words_text (word ∷ words)) begin) =
-      subst (λ (t : List ℕ). IsCommand t (record { text = t; line = line_after (before (skipped ++ body) t) line }) front) (sym starts) lined in
+    subst (λ (t : List ℕ). IsCommand t (record { text = t; line = line_after (before (skipped ++ body) t) line }) front) (sym starts) lined in
     subst (λ (t : List ℕ). IsFirst t line (command_of begin (word ∷ words)) (10 ∷ rest) (line_after (words_text (word ∷ words)) begin)) (sym whole) placed
 
 pub line_is_first : (words : List PrintedWord) → LineIsFirst words

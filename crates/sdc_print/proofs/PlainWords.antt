@@ -32,23 +32,23 @@ follow_other : (rest : List ℕ) → may_follow rest ≡ true → front (grammar
 unfolding front
 follow_other [] h = refl
 follow_other (b ∷ bs) h = elim (cases_Bool (is_space b || is_end b)) [
-    | inl p ↦ rw p refl
-    | inr p ↦
+  | inl p ↦ rw p refl
+  | inr p ↦
       let h2 : (b == 92 && continues bs) ≡ true = rw p at h in
       let q : (b == 92) ≡ true = (and_parts (b == 92) (continues bs) h2).0 in
       rw (p, q) refl
-  ]
+]
 
 follow_behind : (rest : List ℕ) → may_follow rest ≡ true → behind (grammar.is_itself grammar.bare) rest ≡ rest
 unfolding behind
 follow_behind [] h = refl
 follow_behind (b ∷ bs) h = elim (cases_Bool (is_space b || is_end b)) [
-    | inl p ↦ rw p refl
-    | inr p ↦
+  | inl p ↦ rw p refl
+  | inr p ↦
       let h2 : (b == 92 && continues bs) ≡ true = rw p at h in
       let q : (b == 92) ≡ true = (and_parts (b == 92) (continues bs) h2).0 in
       rw (p, q) refl
-  ]
+]
 
 continued_stops : (rest : List ℕ) → continues rest ≡ true → grammar.behind_backslash grammar.bare rest ≡ stops (Ok (92 ∷ rest))
 continued_stops [] h = absurd (both_ways false refl h)
@@ -58,13 +58,13 @@ follow_stops : (rest : List ℕ) → may_follow rest ≡ true → grammar.piece_
 unfolding grammar.piece_at
 follow_stops [] h = refl
 follow_stops (b ∷ bs) h = elim (cases_Bool (is_space b || is_end b)) [
-    | inl p ↦ rw p refl
-    | inr p ↦
+  | inl p ↦ rw p refl
+  | inr p ↦
       let h2 : (b == 92 && continues bs) ≡ true = rw p at h in
       let parts = and_parts (b == 92) (continues bs) h2 in
       let same : b ≡ 92 = grind (arith, nat_tests) in
       rw (p, parts.0) (continued_stops bs parts.1 ∙ ap (λ (c : ℕ). stops (Ok (c ∷ bs))) (sym same))
-  ]
+]
 
 -- ---- runs
 
@@ -142,13 +142,13 @@ bare_piece b bs rest p all follows =
     let self = weaker_all is_plain (grammar.is_itself grammar.bare) plain_itself bs all in
     plain_piece b (bs ++ rest) p
     ∙ (ap (λ (t : List ℕ). found (grammar.text (b ∷ t)) (behind (grammar.is_itself grammar.bare) (bs ++ rest)))
-      (run_front (grammar.is_itself grammar.bare) bs rest self ∙ (ap (λ (t : List ℕ). bs ++ t) (follow_other rest follows) ∙ append-nil bs))
+    (run_front (grammar.is_itself grammar.bare) bs rest self ∙ (ap (λ (t : List ℕ). bs ++ t) (follow_other rest follows) ∙ append-nil bs))
     ∙ ap (λ (t : List ℕ). found (grammar.text (b ∷ bs)) t) (run_behind (grammar.is_itself grammar.bare) bs rest self ∙ follow_behind rest follows))
 
 bare_stands : (b : ℕ) (bs rest : List ℕ) → Plain b → list_all is_plain bs ≡ true → may_follow rest ≡ true → StandsWord (b ∷ (bs ++ rest)) (found (text_word (b ∷ bs)) rest)
 bare_stands b bs rest p all follows =
     let word : IsBare (b ∷ (bs ++ rest)) (found (text_word (b ∷ bs)) rest) =
-      (grammar.text (b ∷ bs) ∷ [], Ok rest, (rest, bare_piece b bs rest p all follows, follow_stops rest follows), refl) in
+    (grammar.text (b ∷ bs) ∷ [], Ok rest, (rest, bare_piece b bs rest p all follows, follow_stops rest follows), refl) in
     rw (plain_gap b (bs ++ rest) p, plain_opening b (bs ++ rest) p) word
 
 pub bare_is_word : (text : List ℕ) → 0 < length text → list_all is_plain text ≡ true → IsWord (text_word text) text
@@ -238,9 +238,9 @@ inner_stands : (text rest : List ℕ) → list_all is_braced text ≡ true → m
 inner_stands text rest h follows =
     let same = before_is text (125 ∷ rest) in
     subst (λ (t : List ℕ). (pieces : List grammar.Piece) × ArePieces grammar.braced pieces t (Ok []) × (found (text_word text) rest ≡ ended_closed pieces (Ok rest))) (sym same) (row text h) where
-  row : (inner : List ℕ) → list_all is_braced inner ≡ true → (pieces : List grammar.Piece) × ArePieces grammar.braced pieces inner (Ok []) × (found (text_word inner) rest ≡ ended_closed pieces (Ok rest))
-  row [] k = ([], no_more [], rw follows refl)
-  row (b ∷ bs) k = (grammar.text (b ∷ bs) ∷ [], ([], inner_piece b bs k, no_more []), rw follows refl)
+      row : (inner : List ℕ) → list_all is_braced inner ≡ true → (pieces : List grammar.Piece) × ArePieces grammar.braced pieces inner (Ok []) × (found (text_word inner) rest ≡ ended_closed pieces (Ok rest))
+      row [] k = ([], no_more [], rw follows refl)
+      row (b ∷ bs) k = (grammar.text (b ∷ bs) ∷ [], ([], inner_piece b bs k, no_more []), rw follows refl)
 
 braced_text : (text rest : List ℕ) → (123 ∷ (text ++ 125 ∷ [])) ++ rest ≡ 123 ∷ (text ++ 125 ∷ rest)
 braced_text text rest = ap (λ (t : List ℕ). 123 ∷ t) (append_assoc text (125 ∷ []) rest)
@@ -248,7 +248,7 @@ braced_text text rest = ap (λ (t : List ℕ). 123 ∷ t) (append_assoc text (12
 braced_stands : (text rest : List ℕ) → list_all is_braced text ≡ true → may_follow rest ≡ true → StandsWord (123 ∷ (text ++ 125 ∷ rest)) (found (text_word text) rest)
 braced_stands text rest h follows =
     let whole : IsBraced (text ++ 125 ∷ rest) (behind_brace (text ++ 125 ∷ rest)) (found (text_word text) rest) =
-      subst (λ o. IsBraced (text ++ 125 ∷ rest) o (found (text_word text) rest)) (sym (inside_all text rest [] false h ∙ all_closed rest)) (inner_stands text rest h follows) in
+    subst (λ o. IsBraced (text ++ 125 ∷ rest) o (found (text_word text) rest)) (sym (inside_all text rest [] false h ∙ all_closed rest)) (inner_stands text rest h follows) in
     subst (λ (t : List ℕ). IsWordOf (opening t) t (found (text_word text) rest)) (sym (braced_gap (text ++ 125 ∷ rest))) whole
 
 pub braced_is_word : (text : List ℕ) → list_all is_braced text ≡ true → IsWord (text_word text) (123 ∷ (text ++ 125 ∷ []))
@@ -313,7 +313,7 @@ query_stands : (names rest : List ℕ) → list_all is_braced names ≡ true →
 query_stands names rest h follows =
     let text : List ℕ = 91 ∷ (query_script names ++ 93 ∷ rest) in
     let word : IsBare (91 ∷ (query_script names ++ 93 ∷ rest)) (found (script_word (query_script names)) rest) =
-      (grammar.other (part.Script (query_script names)) ∷ [], Ok rest, (rest, query_piece names rest h, follow_stops rest follows), refl) in
+    (grammar.other (part.Script (query_script names)) ∷ [], Ok rest, (rest, query_piece names rest h, follow_stops rest follows), refl) in
     subst (λ (t : List ℕ). IsWordOf (opening t) t (found (script_word (query_script names)) rest)) (sym (bracket_gap (query_script names ++ 93 ∷ rest))) word
 
 pub query_is_word : (names : List ℕ) → list_all is_braced names ≡ true → IsWord (script_word (query_script names)) (91 ∷ (query_script names ++ 93 ∷ []))
