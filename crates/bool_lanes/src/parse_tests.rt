@@ -54,6 +54,9 @@ fn names_of(alloc: Global, names: &str) -> Result<List<Text>, NoMemory> {
 fn show_parse(alloc: Global, text: &str, names: &str) -> Result<String, NoMemory> {
     let names = names_of(alloc, names)?;
     let mut shown = String::new(alloc);
+    if names.len() > 60_001 {
+        return Ok(shown);
+    }
     match parse(alloc, text, &names) {
         Ok(Some(expr)) => show_expr(alloc, &mut shown, &expr)?,
         Ok(None) => shown.push_str("none")?,

@@ -1,16 +1,29 @@
 //! Tables of small functions, and of chains of ten inputs, with values computed by hand.
 
+ghost use Rattle.std.specs.Prelude.{◌≡◌, ◌≤◌, IfOk};
+ghost use Rattle.sdc_model.specs.FunctionValue.{pins_are_below};
+
+use crate::known::bit;
 use crate::{Known, Table, parse};
 use sdc_base::{List, NoMemory, Stop, Text};
 use sdc_model::Expr;
 use std::alloc::Global;
 use std::test::Fail;
 
-/// The function of a text over the inputs `A`, `B` and so on, or another one where it is none.
-fn function_of(alloc: Global, text: &str) -> Result<Expr, NoMemory> {
+/// The names `A`, `B` and so on of ten inputs.
+fn ten_names(alloc: Global) -> Result<List<Text>, NoMemory> {
     let mut names = List::new(alloc);
     for name in "A B C D E F G H I J".split(' ') {
         names.push(Text::from_str(alloc, name)?)?;
+    }
+    Ok(names)
+}
+
+/// The function of a text over ten inputs, or another one where it is none.
+fn function_of(alloc: Global, text: &str) -> Result<Expr, NoMemory> {
+    let names = ten_names(alloc)?;
+    if names.len() > 10 {
+        return Ok(Expr::Zero);
     }
     match parse(alloc, text, &names) {
         Ok(Some(expr)) => Ok(expr),
@@ -19,11 +32,38 @@ fn function_of(alloc: Global, text: &str) -> Result<Expr, NoMemory> {
     }
 }
 
+/// Whether every pin of an expression is below a number.
+fn pins_are_below(inputs: u8, expr: &Expr) -> bool
+    ensures { result ≡ pins_are_below inputs expr.now }
+{
+    match expr {
+        Expr::Zero | Expr::One => true,
+        Expr::Pin(pin) => *pin < u16::from(inputs),
+        Expr::Not(inner) => pins_are_below(inputs, inner.get()),
+        Expr::And(left, right) | Expr::Or(left, right) | Expr::Xor(left, right) => {
+            let left = pins_are_below(inputs, left.get());
+            let right = pins_are_below(inputs, right.get());
+            left && right
+        }
+    }
+}
+
+/// The table of a text's function over so many inputs, at most ten.
+fn table_of(rt: HostRuntime, text: &str, inputs: u8) -> Result<Table, NoMemory>
+    requires { inputs ≤ 10 }
+    ensures { IfOk result (λ table. table.inputs ≡ inputs) }
+{
+    let expr = function_of(rt.alloc(), text)?;
+    assert!(rt; pins_are_below(inputs, &expr));
+    Ok(Table::of(&expr, inputs))
+}
+
 /// The values of a function's table in the order of its completions, as `0` and `1`.
-fn show_table(alloc: Global, text: &str, inputs: u8) -> Result<String, NoMemory> {
-    let expr = function_of(alloc, text)?;
-    let table = Table::of(&expr, inputs);
-    let mut shown = String::new(alloc);
+fn show_table(rt: HostRuntime, text: &str, inputs: u8) -> Result<String, NoMemory>
+    requires { inputs ≤ 10 }
+{
+    let table = table_of(rt, text, inputs)?;
+    let mut shown = String::new(rt.alloc());
     for completion in 0..(1_u16 << inputs) {
         let known = Known {
             mask: (1 << inputs) - 1,
@@ -58,15 +98,14 @@ fn functions_of_two_inputs(rt: HostRuntime) -> Result<(), Fail> {
         ("A + B", "0111"),
         ("1", "1111"),
     ] {
-        assert_eq!(rt; show_table(rt.alloc(), text, 2)?.as_str(), wanted);
+        assert_eq!(rt; show_table(rt, text, 2)?.as_str(), wanted);
     }
     Ok(())
 }
 
 #[test]
 fn multiplexer_with_known_inputs(rt: HostRuntime) -> Result<(), Fail> {
-    let expr = function_of(rt.alloc(), "(A C') + (B C)")?;
-    let table = Table::of(&expr, 3);
+    let table = table_of(rt, "(A C') + (B C)", 3)?;
     let select_zero = Known { mask: 4, value: 0 };
     assert_eq!(rt; table.forced(&select_zero), None);
     assert!(rt; table.depends(0, &select_zero));
@@ -85,12 +124,11 @@ fn multiplexer_with_known_inputs(rt: HostRuntime) -> Result<(), Fail> {
 
 #[test]
 fn chains_of_ten_inputs(rt: HostRuntime) -> Result<(), Fail> {
-    let alloc = rt.alloc();
     let all = 0x3ff;
     let nothing = Known { mask: 0, value: 0 };
-    let and = Table::of(&function_of(alloc, "A B C D E F G H I J")?, 10);
-    let or = Table::of(&function_of(alloc, "A+B+C+D+E+F+G+H+I+J")?, 10);
-    let xor = Table::of(&function_of(alloc, "A^B^C^D^E^F^G^H^I^J")?, 10);
+    let and = table_of(rt, "A B C D E F G H I J", 10)?;
+    let or = table_of(rt, "A+B+C+D+E+F+G+H+I+J", 10)?;
+    let xor = table_of(rt, "A^B^C^D^E^F^G^H^I^J", 10)?;
     for pin in 0..10_u8 {
         let others = all - (1 << pin);
         let zero = Known {
@@ -110,6 +148,7 @@ fn chains_of_ten_inputs(rt: HostRuntime) -> Result<(), Fail> {
         assert_eq!(rt; or.forced(&zero), None);
         assert_eq!(rt; or.forced(&one), Some(true));
         assert_eq!(rt; xor.forced(&others_one), None);
+        assert!(rt; bit(others, pin) == 0);
         assert!(rt; and.depends(pin, &nothing));
         assert!(rt; and.depends(pin, &others_one));
         assert!(rt; !or.depends(pin, &others_one));
