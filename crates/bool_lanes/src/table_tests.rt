@@ -8,6 +8,7 @@ use crate::{Known, Table, parse};
 use sdc_base::{List, NoMemory, Stop, Text};
 use sdc_model::Expr;
 use std::alloc::Global;
+use std::process::Abort;
 use std::test::Fail;
 
 /// The names `A`, `B` and so on of ten inputs.
@@ -49,21 +50,21 @@ fn pins_are_below(inputs: u8, expr: &Expr) -> bool
 }
 
 /// The table of a text's function over so many inputs, at most ten.
-fn table_of(rt: HostRuntime, text: &str, inputs: u8) -> Result<Table, NoMemory>
+fn table_of(rt: &impl Abort, alloc: Global, text: &str, inputs: u8) -> Result<Table, NoMemory>
     requires { inputs ≤ 10 }
     ensures { IfOk result (λ table. table.inputs ≡ inputs) }
 {
-    let expr = function_of(rt.alloc(), text)?;
+    let expr = function_of(alloc, text)?;
     assert!(rt; pins_are_below(inputs, &expr));
     Ok(Table::of(&expr, inputs))
 }
 
 /// The values of a function's table in the order of its completions, as `0` and `1`.
-fn show_table(rt: HostRuntime, text: &str, inputs: u8) -> Result<String, NoMemory>
+fn show_table(rt: &impl Abort, alloc: Global, text: &str, inputs: u8) -> Result<String, NoMemory>
     requires { inputs ≤ 10 }
 {
-    let table = table_of(rt, text, inputs)?;
-    let mut shown = String::new(rt.alloc());
+    let table = table_of(rt, alloc, text, inputs)?;
+    let mut shown = String::new(alloc);
     for completion in 0..(1_u16 << inputs) {
         let known = Known {
             mask: (1 << inputs) - 1,
@@ -98,14 +99,14 @@ fn functions_of_two_inputs(rt: HostRuntime) -> Result<(), Fail> {
         ("A + B", "0111"),
         ("1", "1111"),
     ] {
-        assert_eq!(rt; show_table(rt, text, 2)?.as_str(), wanted);
+        assert_eq!(rt; show_table(&rt, rt.alloc(), text, 2)?.as_str(), wanted);
     }
     Ok(())
 }
 
 #[test]
 fn multiplexer_with_known_inputs(rt: HostRuntime) -> Result<(), Fail> {
-    let table = table_of(rt, "(A C') + (B C)", 3)?;
+    let table = table_of(&rt, rt.alloc(), "(A C') + (B C)", 3)?;
     let select_zero = Known { mask: 4, value: 0 };
     assert_eq!(rt; table.forced(&select_zero), None);
     assert!(rt; table.depends(0, &select_zero));
@@ -126,9 +127,9 @@ fn multiplexer_with_known_inputs(rt: HostRuntime) -> Result<(), Fail> {
 fn chains_of_ten_inputs(rt: HostRuntime) -> Result<(), Fail> {
     let all = 0x3ff;
     let nothing = Known { mask: 0, value: 0 };
-    let and = table_of(rt, "A B C D E F G H I J", 10)?;
-    let or = table_of(rt, "A+B+C+D+E+F+G+H+I+J", 10)?;
-    let xor = table_of(rt, "A^B^C^D^E^F^G^H^I^J", 10)?;
+    let and = table_of(&rt, rt.alloc(), "A B C D E F G H I J", 10)?;
+    let or = table_of(&rt, rt.alloc(), "A+B+C+D+E+F+G+H+I+J", 10)?;
+    let xor = table_of(&rt, rt.alloc(), "A^B^C^D^E^F^G^H^I^J", 10)?;
     for pin in 0..10_u8 {
         let others = all - (1 << pin);
         let zero = Known {
