@@ -131,7 +131,7 @@ fn chains_of_ten_inputs(rt: HostRuntime) -> Result<(), Fail> {
     let or = table_of(&rt, rt.alloc(), "A+B+C+D+E+F+G+H+I+J", 10)?;
     let xor = table_of(&rt, rt.alloc(), "A^B^C^D^E^F^G^H^I^J", 10)?;
     for pin in 0..10_u8 {
-        let others = all - (1 << pin);
+        let others = all & !(1 << pin);
         let zero = Known {
             mask: 1 << pin,
             value: 0,
