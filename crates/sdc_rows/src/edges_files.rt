@@ -1,9 +1,11 @@
 //! `edges` over several files, with waveforms and clock groups.
 
+use crate::answers::{has_written, is_usage, out_of_profile, stops, too_many, writes};
 use crate::edges::{TWO_CLOCKS, TWO_CLOCKS_REPORT};
-use crate::runs::{NO_FAILS, equal_clocks, fault_of, outcome_of};
+use crate::runs::{NO_FAILS, equal_clocks, outcome_of};
 use sdc_cli::Status;
-use sdc_model::{Kind, SdcKind};
+use std::alloc::Global;
+use std::process::Abort;
 use std::test::Fail;
 
 const ONE_CLOCK: &str = "create_clock -name A -period 10\n";
@@ -33,66 +35,76 @@ w.sdc: W fall -> W rise setup 5 hold -5
 w.sdc: W fall -> W fall setup 10 hold 0
 ";
 
+static THREE_FILES: [(&str, &str); 3] = [
+    ("a.sdc", ONE_CLOCK),
+    ("e.sdc", ""),
+    ("w.sdc", MOVED_CLOCK),
+];
+
 // Two files, the second with a waveform past one period; an empty file among them leaves no line.
 #[test]
 fn reports_of_two_files(rt: HostRuntime) -> Result<(), Fail> {
-    let files = [("a.sdc", ONE_CLOCK), ("e.sdc", ""), ("w.sdc", MOVED_CLOCK)];
     for words in ["edges a.sdc w.sdc", "edges e.sdc a.sdc e.sdc w.sdc"] {
-        let done = outcome_of(rt.alloc(), words, &files, 16, NO_FAILS)?;
-        assert_eq!(rt; done.status, Status::Done, "{words}");
-        assert_eq!(rt;
-            done.outputs.report.as_slice(),
-            TWO_FILES_REPORT.as_bytes(),
-            "{words}"
-        );
+        writes(&rt, rt.alloc(), words, &THREE_FILES, "", TWO_FILES_REPORT)?;
     }
     Ok(())
 }
 
-// Clock groups in each form; the report is that of the clocks alone.
+/// Clock groups in each form, and the lines before them that a printed file has.
+static GROUPS: [&str; 4] = [
+    "set_clock_groups -asynchronous -group A -group B\n",
+    "set_clock_groups -asynchronous -group {A} -group { B A }\n",
+    "set_clock_groups -asynchronous -group [get_clocks {A}] -group [get_clocks {A B}]\n",
+    "set sdc_version 2.1\nset_units -time 1ns\n",
+];
+
+/// Sees that the report of two clocks is the same with these lines behind them.
+fn plays_no_part(rt: &impl Abort, alloc: Global, lines: &str) -> Result<(), Fail> {
+    let text = format!(in alloc; "{TWO_CLOCKS}{lines}")?;
+    let files = [("a.sdc", text.as_str())];
+    let done = outcome_of(alloc, "edges a.sdc", &files, 64, NO_FAILS)?;
+    assert!(rt;
+        has_written(&done, "", TWO_CLOCKS_REPORT),
+        "{lines}: {done:?}"
+    );
+    Ok(())
+}
+
 #[test]
 fn groups_play_no_part(rt: HostRuntime) -> Result<(), Fail> {
-    for groups in [
-        "set_clock_groups -asynchronous -group A -group B\n",
-        "set_clock_groups -asynchronous -group {A} -group { B A }\n",
-        "set_clock_groups -asynchronous -group [get_clocks {A}] -group [get_clocks {A B}]\n",
-        "set sdc_version 2.1\nset_units -time 1ns\n",
-    ] {
-        let text = format!(in rt.alloc(); "{TWO_CLOCKS}{groups}")?;
-        let files = [("a.sdc", text.as_str())];
-        let done = outcome_of(rt.alloc(), "edges a.sdc", &files, 64, NO_FAILS)?;
-        assert_eq!(rt; done.status, Status::Done, "{groups}");
-        assert_eq!(rt;
-            done.outputs.report.as_slice(),
-            TWO_CLOCKS_REPORT.as_bytes(),
-            "{groups}"
-        );
+    for lines in GROUPS.iter() {
+        plays_no_part(&rt, rt.alloc(), lines)?;
     }
     Ok(())
 }
+
+/// Files of clocks A and B, in which a group may come too early.
+static EARLY_GROUPS: [(&str, &str); 3] = [
+    ("b.sdc", "create_clock -name B -period 10\n"),
+    (
+        "between.sdc",
+        "create_clock -name A -period 10
+set_clock_groups -asynchronous -group A -group B
+create_clock -name B -period 10
+",
+    ),
+    (
+        "without.sdc",
+        "create_clock -name A -period 10
+set_clock_groups -asynchronous -group A -group B
+",
+    ),
+];
 
 // A name in a group that is a clock's only further down, or only in another file.
 #[test]
 fn groups_of_later_clocks(rt: HostRuntime) -> Result<(), Fail> {
-    let groups = "set_clock_groups -asynchronous -group A -group B\n";
-    let a = "create_clock -name A -period 10\n";
-    let b = "create_clock -name B -period 10\n";
-    let between = format!(in rt.alloc(); "{a}{groups}{b}")?;
-    let without = format!(in rt.alloc(); "{a}{groups}")?;
-    let files = [
-        ("b.sdc", b),
-        ("between.sdc", between.as_str()),
-        ("without.sdc", without.as_str()),
-    ];
     for (words, place) in [
         ("edges between.sdc", 1),
         ("edges b.sdc without.sdc", 2),
         ("edges b.sdc b.sdc between.sdc without.sdc", 3),
     ] {
-        let refused = outcome_of(rt.alloc(), words, &files, 64, NO_FAILS)?;
-        let fault = Some((place, Kind::Sdc(SdcKind::OutOfProfile)));
-        assert_eq!(rt; fault_of(refused.status), fault, "{words}");
-        assert_eq!(rt; refused.outputs.calls, 0, "{words}");
+        stops(&rt, rt.alloc(), words, &EARLY_GROUPS, out_of_profile(place))?;
     }
     Ok(())
 }
@@ -100,22 +112,17 @@ fn groups_of_later_clocks(rt: HostRuntime) -> Result<(), Fail> {
 // 16 files are read, 17 are no command line.
 #[test]
 fn sixteen_files(rt: HostRuntime) -> Result<(), Fail> {
-    let sixteen = "edges f f f f f f f f f f f f f f f f";
-    let seventeen = "edges f f f f f f f f f f f f f f f f f";
     let files = [("f", ONE_CLOCK)];
-    let done = outcome_of(rt.alloc(), sixteen, &files, 64, NO_FAILS)?;
-    assert_eq!(rt; done.status, Status::Done);
     let one = "f: A rise -> A rise setup 10 hold 0
 f: A rise -> A fall setup 5 hold -5
 f: A fall -> A rise setup 5 hold -5
 f: A fall -> A fall setup 10 hold 0
 ";
-    assert_eq!(rt; done.outputs.report.len(), 16 * one.len());
-    assert!(rt; done.outputs.report.as_slice().starts_with(one.as_bytes()));
-    let usage = outcome_of(rt.alloc(), seventeen, &files, 64, NO_FAILS)?;
-    assert_eq!(rt; usage.status, Status::Usage);
-    assert_eq!(rt; usage.inputs.calls, 0);
-    Ok(())
+    let all = one.repeat(rt.alloc(), 16)?;
+    let sixteen = "edges f f f f f f f f f f f f f f f f";
+    let seventeen = "edges f f f f f f f f f f f f f f f f f";
+    writes(&rt, rt.alloc(), sixteen, &files, "", all.as_str())?;
+    is_usage(&rt, rt.alloc(), seventeen, &files)
 }
 
 // 1,024 clocks in three files are read, as the missing fourth file shows; 1,025 are too many.
@@ -129,24 +136,14 @@ fn clocks_of_three_files(rt: HostRuntime) -> Result<(), Fail> {
         ("one", ONE_CLOCK),
         ("bad", "foo"),
     ];
-    let too_many = Kind::Sdc(SdcKind::TooMany);
-    for (words, fault) in [
-        ("edges half half one missing", Some((3, too_many))),
-        ("edges one half half bad", Some((3, too_many))),
-        (
-            "edges half half bad",
-            Some((3, Kind::Sdc(SdcKind::OutOfProfile))),
-        ),
-        ("edges half less one one", Some((4, too_many))),
-        ("edges half less one missing", None),
+    for (words, status) in [
+        ("edges half half one missing", too_many(3)),
+        ("edges one half half bad", too_many(3)),
+        ("edges half half bad", out_of_profile(3)),
+        ("edges half less one one", too_many(4)),
+        ("edges half less one missing", Status::ReadFault(4)),
     ] {
-        let refused = outcome_of(rt.alloc(), words, &files, 4096, NO_FAILS)?;
-        assert_eq!(rt; fault_of(refused.status), fault, "{words}");
-        assert!(rt;
-            fault.is_some() || refused.status == Status::ReadFault(4),
-            "{words}"
-        );
-        assert_eq!(rt; refused.outputs.calls, 0, "{words}");
+        stops(&rt, rt.alloc(), words, &files, status)?;
     }
     Ok(())
 }

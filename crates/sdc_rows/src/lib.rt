@@ -3,6 +3,8 @@
 #![tactic(auto)]
 
 #[cfg(test)]
+mod answers;
+#[cfg(test)]
 mod edges;
 #[cfg(test)]
 mod edges_files;
@@ -10,6 +12,8 @@ mod edges_files;
 mod merge;
 #[cfg(test)]
 mod merge_faults;
+#[cfg(test)]
+mod merge_length;
 #[cfg(test)]
 mod merge_words;
 #[cfg(test)]

@@ -1,7 +1,9 @@
 //! What `merge` over the empty design writes.
 
-use crate::runs::{NO_FAILS, outcome_of};
-use sdc_cli::Status;
+use crate::answers::has_written;
+use crate::runs::{NO_FAILS, Outcome, outcome_of};
+use std::alloc::Global;
+use std::process::Abort;
 use std::test::Fail;
 
 pub const M1: &str = "create_clock -name A -period 10
@@ -84,53 +86,61 @@ const QUOTED_REPORT: &str =
     r#"{"clocks":[{"modes":[["a\"b.sdc","A"]],"name":"A"}],"listed":[],"not_carried":[]}
 "#;
 
-// The merged file and the report, worked out by hand. The last row reads a merged file again.
+static FILES: [(&str, &str); 11] = [
+    ("m1.sdc", M1),
+    ("m2.sdc", M2),
+    ("a.sdc", "create_clock -name A -period 10\n"),
+    ("a\"b.sdc", "create_clock -name A -period 10\n"),
+    ("slow.sdc", "create_clock -name A -period 20\n"),
+    ("c.sdc", "create_clock -name C -period 10\n"),
+    (
+        "r.sdc",
+        "create_clock -name B -period 10\ncreate_clock -name A -period 10\n",
+    ),
+    (
+        "w.sdc",
+        "create_clock -name W -period 10 -waveform {12 17}\n",
+    ),
+    ("v.sdc", "create_clock -name V -period 10 -waveform {2 7}\n"),
+    ("e.sdc", ""),
+    ("apart.sdc", APART),
+];
+
+/// Words, the merged file and the report, worked out by hand. The last row reads a merged file again.
+static MERGES: [(&str, &str, &str); 9] = [
+    ("merge - - - o.sdc m1.sdc m2.sdc", SHARED, SHARED_REPORT),
+    ("merge - - - o.sdc m1.sdc a.sdc", APART, APART_REPORT),
+    ("merge - - - o.sdc e.sdc", EMPTY, EMPTY_REPORT),
+    ("merge - - - o.sdc e.sdc e.sdc", EMPTY, EMPTY_REPORT),
+    ("merge - - - o.sdc w.sdc v.sdc", MOVED, MOVED_REPORT),
+    ("merge - - - o.sdc a.sdc slow.sdc", RENAMED, RENAMED_REPORT),
+    ("merge - - - o.sdc r.sdc c.sdc", RANKED, RANKED_REPORT),
+    ("merge - - - o.sdc a\"b.sdc", QUOTED, QUOTED_REPORT),
+    ("merge - - - o.sdc apart.sdc", APART, AGAIN_REPORT),
+];
+
+/// Whether a merge into `o.sdc` was done, and left these texts in the merged file and in the report.
+fn is_merged(outcome: &Outcome, merged: &str, report: &str) -> bool {
+    outcome.name.as_str() == "o.sdc" && has_written(outcome, merged, report)
+}
+
+/// Sees that a merge into `o.sdc` is done, and what stands in the merged file and in the report.
+fn merges(
+    rt: &impl Abort,
+    alloc: Global,
+    words: &str,
+    merged: &str,
+    report: &str,
+) -> Result<(), Fail> {
+    let done = outcome_of(alloc, words, &FILES, 16, NO_FAILS)?;
+    assert!(rt; is_merged(&done, merged, report), "{words}: {done:?}");
+    Ok(())
+}
+
 #[test]
 fn merged_files_and_reports(rt: HostRuntime) -> Result<(), Fail> {
-    let files = [
-        ("m1.sdc", M1),
-        ("m2.sdc", M2),
-        ("a.sdc", "create_clock -name A -period 10\n"),
-        ("a\"b.sdc", "create_clock -name A -period 10\n"),
-        ("slow.sdc", "create_clock -name A -period 20\n"),
-        ("c.sdc", "create_clock -name C -period 10\n"),
-        (
-            "r.sdc",
-            "create_clock -name B -period 10\ncreate_clock -name A -period 10\n",
-        ),
-        (
-            "w.sdc",
-            "create_clock -name W -period 10 -waveform {12 17}\n",
-        ),
-        ("v.sdc", "create_clock -name V -period 10 -waveform {2 7}\n"),
-        ("e.sdc", ""),
-        ("apart.sdc", APART),
-    ];
-    for (words, merged, report) in [
-        ("merge - - - o.sdc m1.sdc m2.sdc", SHARED, SHARED_REPORT),
-        ("merge - - - o.sdc m1.sdc a.sdc", APART, APART_REPORT),
-        ("merge - - - o.sdc e.sdc", EMPTY, EMPTY_REPORT),
-        ("merge - - - o.sdc e.sdc e.sdc", EMPTY, EMPTY_REPORT),
-        ("merge - - - o.sdc w.sdc v.sdc", MOVED, MOVED_REPORT),
-        ("merge - - - o.sdc a.sdc slow.sdc", RENAMED, RENAMED_REPORT),
-        ("merge - - - o.sdc r.sdc c.sdc", RANKED, RANKED_REPORT),
-        ("merge - - - o.sdc a\"b.sdc", QUOTED, QUOTED_REPORT),
-        ("merge - - - o.sdc apart.sdc", APART, AGAIN_REPORT),
-    ] {
-        let done = outcome_of(rt.alloc(), words, &files, 16, NO_FAILS)?;
-        assert_eq!(rt; done.status, Status::Done, "{words}");
-        assert_eq!(rt; done.outputs.name.as_str(), "o.sdc", "{words}");
-        assert_eq!(rt;
-            done.outputs.merged.as_slice(),
-            merged.as_bytes(),
-            "{words}"
-        );
-        assert_eq!(rt;
-            done.outputs.report.as_slice(),
-            report.as_bytes(),
-            "{words}"
-        );
-        assert_eq!(rt; done.outputs.faults_text.len(), 0, "{words}");
+    for (words, merged, report) in MERGES.iter() {
+        merges(&rt, rt.alloc(), words, merged, report)?;
     }
     Ok(())
 }

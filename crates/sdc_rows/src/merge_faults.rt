@@ -1,30 +1,70 @@
 //! `merge` where a read or a write fails, or a mode is refused.
 
+use crate::answers::{has_left, has_stopped, has_written, out_of_profile, stops, too_many};
 use crate::merge::{M1, M2, SHARED, SHARED_REPORT};
-use crate::runs::{Fails, NO_FAILS, equal_clocks, fault_of, outcome_of};
+use crate::runs::{Fails, NO_FAILS, Outcome, equal_clocks, is_proper_front, outcome_of};
 use sdc_cli::Status;
-use sdc_model::{Kind, SdcKind};
+use std::alloc::Global;
+use std::process::Abort;
 use std::test::Fail;
 
 const WORDS: &str = "merge - - - o.sdc m1.sdc m2.sdc";
 
-const FILES: [(&str, &str); 2] = [("m1.sdc", M1), ("m2.sdc", M2)];
+static FILES: [(&str, &str); 2] = [("m1.sdc", M1), ("m2.sdc", M2)];
+
+/// Sees that nothing is written where this call of the inputs fails, a call on the file at this place.
+fn read_fails(rt: &impl Abort, alloc: Global, read: u64, place: u32) -> Result<(), Fail> {
+    let failed = outcome_of(alloc, WORDS, &FILES, 16, Fails { read, write: 0 })?;
+    assert!(rt;
+        has_stopped(&failed, Status::ReadFault(place)),
+        "call {read}: {failed:?}"
+    );
+    Ok(())
+}
+
+/// Whether a run was done with so many calls of the inputs.
+fn has_read(outcome: &Outcome, reads: u64) -> bool {
+    outcome.status == Status::Done && outcome.reads == reads
+}
 
 // Each call of the inputs fails in turn. The 113 bytes of the first mode, 16 a call, take ten calls: the
 // begin, eight reads and the one at the end. The 64 bytes of the second take six.
 #[test]
 fn failing_reads(rt: HostRuntime) -> Result<(), Fail> {
-    for read in 1..=16 {
-        let fails = Fails { read, write: 0 };
-        let failed = outcome_of(rt.alloc(), WORDS, &FILES, 16, fails)?;
-        let place = if read <= 10 { 5 } else { 6 };
-        assert_eq!(rt; failed.status, Status::ReadFault(place), "call {read}");
-        assert_eq!(rt; failed.outputs.calls, 0, "call {read}");
+    for read in 1..=10 {
+        read_fails(&rt, rt.alloc(), read, 5)?;
     }
-    let fails = Fails { read: 17, write: 0 };
-    let done = outcome_of(rt.alloc(), WORDS, &FILES, 16, fails)?;
-    assert_eq!(rt; done.status, Status::Done);
-    assert_eq!(rt; done.inputs.calls, 16);
+    for read in 11..=16 {
+        read_fails(&rt, rt.alloc(), read, 6)?;
+    }
+    let done = outcome_of(rt.alloc(), WORDS, &FILES, 16, Fails { read: 17, write: 0 })?;
+    assert!(rt; has_read(&done, 16), "{done:?}");
+    Ok(())
+}
+
+/// Whether a write failed, and what stands is what the writes before it left: the name is there once the file is made,
+/// then comes a front of the file, then all of it, and at last a front of the report, too.
+fn stands(outcome: &Outcome, write: u64) -> bool {
+    let (merged, report) = (outcome.merged.as_str(), outcome.report.as_str());
+    let is_right = match write {
+        1..=10 => is_proper_front(merged, SHARED) && report.is_empty(),
+        11 => merged == SHARED && report.is_empty(),
+        _ => merged == SHARED && is_proper_front(report, SHARED_REPORT),
+    };
+    is_right && has_failed(outcome, if write == 1 { "" } else { "o.sdc" })
+}
+
+/// Whether a write failed, with a merged file of this name, or none where it is empty.
+fn has_failed(outcome: &Outcome, name: &str) -> bool {
+    outcome.status == Status::WriteFault
+        && outcome.name.as_str() == name
+        && outcome.refusals.is_empty()
+}
+
+/// Sees what stands where this call of the outputs fails.
+fn write_fails(rt: &impl Abort, alloc: Global, write: u64) -> Result<(), Fail> {
+    let failed = outcome_of(alloc, WORDS, &FILES, 16, Fails { read: 0, write })?;
+    assert!(rt; stands(&failed, write), "call {write}: {failed:?}");
     Ok(())
 }
 
@@ -33,23 +73,9 @@ fn failing_reads(rt: HostRuntime) -> Result<(), Fail> {
 #[test]
 fn failing_writes(rt: HostRuntime) -> Result<(), Fail> {
     let whole = outcome_of(rt.alloc(), WORDS, &FILES, 16, NO_FAILS)?;
-    assert_eq!(rt; whole.status, Status::Done);
-    for write in 1..=whole.outputs.calls {
-        let failed = outcome_of(rt.alloc(), WORDS, &FILES, 16, Fails { read: 0, write })?;
-        let outputs = &failed.outputs;
-        let (merged, report) = (outputs.merged.as_slice(), outputs.report.as_slice());
-        let name = if write == 1 { "" } else { "o.sdc" };
-        assert_eq!(rt; failed.status, Status::WriteFault, "call {write}");
-        assert_eq!(rt; outputs.name.as_str(), name, "call {write}");
-        assert_eq!(rt; outputs.faults_text.len(), 0, "call {write}");
-        assert!(rt; SHARED.as_bytes().starts_with(merged), "call {write}");
-        assert!(rt;
-            SHARED_REPORT.as_bytes().starts_with(report),
-            "call {write}"
-        );
-        assert!(rt; report.len() < SHARED_REPORT.len(), "call {write}");
-        assert_eq!(rt; merged.len() < SHARED.len(), write <= 10, "call {write}");
-        assert!(rt; 11 < write || report.is_empty(), "call {write}");
+    assert!(rt; has_written(&whole, SHARED, SHARED_REPORT), "{whole:?}");
+    for write in 1..=whole.writes {
+        write_fails(&rt, rt.alloc(), write)?;
     }
     Ok(())
 }
@@ -58,45 +84,43 @@ fn failing_writes(rt: HostRuntime) -> Result<(), Fail> {
 #[test]
 fn a_write_that_fails_after_ten_bytes(rt: HostRuntime) -> Result<(), Fail> {
     let failed = outcome_of(rt.alloc(), WORDS, &FILES, 10, Fails { read: 0, write: 3 })?;
-    assert_eq!(rt; failed.status, Status::WriteFault);
-    assert_eq!(rt; failed.outputs.merged.as_slice(), "set sdc_ve".as_bytes());
-    assert_eq!(rt; failed.outputs.report.len(), 0);
+    let has_left_ten = has_left(&failed, Status::WriteFault, "set sdc_ve", "");
+    assert!(rt; has_left_ten, "{failed:?}");
     Ok(())
 }
 
-// The place of the first file that is refused; `--` and `--tags` with its number are not counted.
+static ONE_BAD: [(&str, &str); 2] = [("m1.sdc", M1), ("bad", "foo")];
+
+/// Words, and the place of the first file that is refused; `--` and `--tags` with its number are not counted.
+static PLACES_OF_REFUSED: [(&str, u32); 7] = [
+    ("merge - - - o bad", 5),
+    ("merge - - - o m1.sdc bad bad", 6),
+    ("merge - - - o m1.sdc m1.sdc bad missing", 7),
+    ("merge --tags 5 - - - o m1.sdc bad", 6),
+    ("merge - - - o m1.sdc --tags=5 bad", 6),
+    ("merge --tags 5 - -- - - o m1.sdc bad", 6),
+    ("merge - - - o m1.sdc bad --", 6),
+];
+
 #[test]
 fn places_of_refused_modes(rt: HostRuntime) -> Result<(), Fail> {
-    let files = [("m1.sdc", M1), ("bad", "foo")];
-    for (words, place) in [
-        ("merge - - - o bad", 5),
-        ("merge - - - o m1.sdc bad bad", 6),
-        ("merge - - - o m1.sdc m1.sdc bad missing", 7),
-        ("merge --tags 5 - - - o m1.sdc bad", 6),
-        ("merge - - - o m1.sdc --tags=5 bad", 6),
-        ("merge --tags 5 - -- - - o m1.sdc bad", 6),
-        ("merge - - - o m1.sdc bad --", 6),
-    ] {
-        let refused = outcome_of(rt.alloc(), words, &files, 64, NO_FAILS)?;
-        let fault = Some((place, Kind::Sdc(SdcKind::OutOfProfile)));
-        assert_eq!(rt; fault_of(refused.status), fault, "{words}");
-        assert_eq!(rt; refused.outputs.calls, 0, "{words}");
+    for (words, place) in PLACES_OF_REFUSED.iter() {
+        stops(&rt, rt.alloc(), words, &ONE_BAD, out_of_profile(*place))?;
     }
     Ok(())
 }
 
-// The place of the first file that is missing, before or behind one that is refused.
+/// Words, and the place of the first file that is missing, before or behind one that is refused.
+static PLACES_OF_MISSING: [(&str, u32); 3] = [
+    ("merge - - - o missing bad", 5),
+    ("merge - - - o m1.sdc missing", 6),
+    ("merge --tags 5 -- - - - o m1.sdc missing", 6),
+];
+
 #[test]
 fn places_of_missing_modes(rt: HostRuntime) -> Result<(), Fail> {
-    let files = [("m1.sdc", M1), ("bad", "foo")];
-    for (words, place) in [
-        ("merge - - - o missing bad", 5),
-        ("merge - - - o m1.sdc missing", 6),
-        ("merge --tags 5 -- - - - o m1.sdc missing", 6),
-    ] {
-        let refused = outcome_of(rt.alloc(), words, &files, 64, NO_FAILS)?;
-        assert_eq!(rt; refused.status, Status::ReadFault(place), "{words}");
-        assert_eq!(rt; refused.outputs.calls, 0, "{words}");
+    for (words, place) in PLACES_OF_MISSING.iter() {
+        stops(&rt, rt.alloc(), words, &ONE_BAD, Status::ReadFault(*place))?;
     }
     Ok(())
 }
@@ -109,19 +133,12 @@ fn clocks_of_all_modes(rt: HostRuntime) -> Result<(), Fail> {
         ("most", most.as_str()),
         ("one", "create_clock -name A -period 10\n"),
     ];
-    let too_many = Some((6, Kind::Sdc(SdcKind::TooMany)));
-    for (words, fault) in [
-        ("merge - - - o most one missing", too_many),
-        ("merge - - - o one most missing", too_many),
-        ("merge - - - o most missing", None),
+    for (words, status) in [
+        ("merge - - - o most one missing", too_many(6)),
+        ("merge - - - o one most missing", too_many(6)),
+        ("merge - - - o most missing", Status::ReadFault(6)),
     ] {
-        let refused = outcome_of(rt.alloc(), words, &files, 4096, NO_FAILS)?;
-        assert_eq!(rt; fault_of(refused.status), fault, "{words}");
-        assert!(rt;
-            fault.is_some() || refused.status == Status::ReadFault(6),
-            "{words}"
-        );
-        assert_eq!(rt; refused.outputs.calls, 0, "{words}");
+        stops(&rt, rt.alloc(), words, &files, status)?;
     }
     Ok(())
 }

@@ -4,15 +4,19 @@ ghost use Rattle.std.specs.Prelude.{◌<◌};
 
 use sdc_base::{List, MemInputs, MemOutputs, NamedBytes, NoMemory, Text};
 use sdc_cli::{Status, run};
-use sdc_model::{Fault, Kind};
 use std::alloc::Global;
 
-/// What a run answered, and what it left.
+/// What a run answered: its status, how often it called the inputs and the outputs, the name of the merged file, and
+/// what was written.
 #[derive(Debug, Drop)]
 pub struct Outcome {
     pub status: Status,
-    pub inputs: MemInputs,
-    pub outputs: MemOutputs,
+    pub reads: u64,
+    pub writes: u64,
+    pub name: String,
+    pub merged: String,
+    pub report: String,
+    pub refusals: String,
 }
 
 /// The calls of the inputs and of the outputs that fail, counted from 1; 0 is none.
@@ -56,24 +60,36 @@ pub fn outcome_of(
         faults: 0,
     };
     let status = run(alloc, words.as_slice(), &mut inputs, &mut outputs);
+    left_by(alloc, status, &inputs, &outputs)
+}
+
+/// What a run with this answer left.
+fn left_by(
+    alloc: Global,
+    status: Status,
+    inputs: &MemInputs,
+    outputs: &MemOutputs,
+) -> Result<Outcome, NoMemory> {
+    let name = String::from_str(alloc, outputs.name.as_str())?;
+    let merged = written(alloc, &outputs.merged)?;
+    let report = written(alloc, &outputs.report)?;
+    let refusals = written(alloc, &outputs.faults_text)?;
     Ok(Outcome {
         status,
-        inputs,
-        outputs,
+        reads: inputs.calls,
+        writes: outputs.calls,
+        name,
+        merged,
+        report,
+        refusals,
     })
 }
 
-/// The place and the kind of the fault of a source.
-pub fn fault_of(status: Status) -> Option<(u32, Kind)> {
-    match status {
-        Status::Source(
-            Fault {
-                file,
-                line: _,
-                kind,
-            },
-        ) => Some((file, kind)),
-        _ => None,
+/// Bytes that were written, as a text.
+fn written(alloc: Global, bytes: &List<u8>) -> Result<String, NoMemory> {
+    match str::from_utf8(bytes.as_slice()) {
+        Ok(text) => Ok(String::from_str(alloc, text)?),
+        Err(_) => Ok(String::from_str(alloc, "no UTF-8")?),
     }
 }
 
@@ -113,4 +129,9 @@ fn one(alloc: Global, number: u64) -> Result<List<u64>, NoMemory> {
     let mut list = List::new(alloc);
     list.push(number)?;
     Ok(list)
+}
+
+/// Whether a text is the beginning of another one, and not all of it.
+pub fn is_proper_front(front: &str, whole: &str) -> bool {
+    whole.starts_with(front) && front.len() < whole.len()
 }
