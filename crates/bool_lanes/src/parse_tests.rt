@@ -4,6 +4,7 @@ use crate::parse;
 use sdc_base::{List, NoMemory, Stop, Text};
 use sdc_model::Expr;
 use std::alloc::Global;
+use std::process::Abort;
 use std::test::Fail;
 
 /// An expression with a letter for each operator before its parts, and each pin by its place.
@@ -69,91 +70,107 @@ fn show_parse(alloc: Global, text: &str, names: &str) -> Result<String, NoMemory
     Ok(shown)
 }
 
+/// Sees that a text means this among names.
+fn means(
+    rt: &impl Abort,
+    alloc: Global,
+    text: &str,
+    names: &str,
+    wanted: &str,
+) -> Result<(), NoMemory> {
+    let shown = show_parse(alloc, text, names)?;
+    assert!(rt; shown.as_str() == wanted, "{text}: {shown}");
+    Ok(())
+}
+
+static FUNCTIONS: [(&str, &str, &str); 34] = [
+    // the order of binding
+    ("A ^ B C", "A,B,C", "and xor 0 1 2"),
+    ("A B ^ C", "A,B,C", "and 0 xor 1 2"),
+    ("A + B C", "A,B,C", "or 0 and 1 2"),
+    ("A*B|C&D", "A,B,C,D", "or and 0 1 and 2 3"),
+    ("(A + B) * C", "A,B,C", "and or 0 1 2"),
+    // operators of one kind group to the left
+    ("A B C", "A,B,C", "and and 0 1 2"),
+    ("A+B|C", "A,B,C", "or or 0 1 2"),
+    ("A^B^C", "A,B,C", "xor xor 0 1 2"),
+    // negations
+    ("!A", "A", "not 0"),
+    ("A'", "A", "not 0"),
+    ("!A'", "A", "not not 0"),
+    ("A''", "A", "not not 0"),
+    ("!! A '", "A", "not not not 0"),
+    ("!A ^ B'", "A,B", "xor not 0 not 1"),
+    ("(A S') + (B S)", "A,B,S", "or and 0 not 2 and 1 2"),
+    ("!(A + B)'", "A,B", "not not or 0 1"),
+    // blanks
+    ("  A\t", "A", "0"),
+    ("( A )", "A", "0"),
+    ("A\nB", "A,B", "and 0 1"),
+    ("A \r\n * B", "A,B", "and 0 1"),
+    ("A !B", "A,B", "and 0 not 1"),
+    ("A (B)", "A,B", "and 0 1"),
+    ("A' B", "A,B", "and not 0 1"),
+    ("A +B", "A,B", "or 0 1"),
+    // words
+    ("0", "A", "zero"),
+    ("1 + A", "A", "or one 0"),
+    ("0A", "A,0A", "1"),
+    ("A[0]", "A[0]", "0"),
+    ("\u{e9}", "\u{e9}", "0"),
+    ("A", "A,A", "0"),
+    // names that are no inputs
+    ("IQ", "A,,IQ", "none"),
+    ("A IQ", "A,,IQ", "none"),
+    ("A", "A,,A", "none"),
+    ("A", ",A", "none"),
+];
+
 #[test]
 fn functions_of_texts(rt: HostRuntime) -> Result<(), Fail> {
-    for (text, names, wanted) in [
-        // the order of binding
-        ("A ^ B C", "A,B,C", "and xor 0 1 2"),
-        ("A B ^ C", "A,B,C", "and 0 xor 1 2"),
-        ("A + B C", "A,B,C", "or 0 and 1 2"),
-        ("A*B|C&D", "A,B,C,D", "or and 0 1 and 2 3"),
-        ("(A + B) * C", "A,B,C", "and or 0 1 2"),
-        // operators of one kind group to the left
-        ("A B C", "A,B,C", "and and 0 1 2"),
-        ("A+B|C", "A,B,C", "or or 0 1 2"),
-        ("A^B^C", "A,B,C", "xor xor 0 1 2"),
-        // negations
-        ("!A", "A", "not 0"),
-        ("A'", "A", "not 0"),
-        ("!A'", "A", "not not 0"),
-        ("A''", "A", "not not 0"),
-        ("!! A '", "A", "not not not 0"),
-        ("!A ^ B'", "A,B", "xor not 0 not 1"),
-        ("(A S') + (B S)", "A,B,S", "or and 0 not 2 and 1 2"),
-        ("!(A + B)'", "A,B", "not not or 0 1"),
-        // blanks
-        ("  A\t", "A", "0"),
-        ("( A )", "A", "0"),
-        ("A\nB", "A,B", "and 0 1"),
-        ("A \r\n * B", "A,B", "and 0 1"),
-        ("A !B", "A,B", "and 0 not 1"),
-        ("A (B)", "A,B", "and 0 1"),
-        ("A' B", "A,B", "and not 0 1"),
-        ("A +B", "A,B", "or 0 1"),
-        // words
-        ("0", "A", "zero"),
-        ("1 + A", "A", "or one 0"),
-        ("0A", "A,0A", "1"),
-        ("A[0]", "A[0]", "0"),
-        ("\u{e9}", "\u{e9}", "0"),
-        ("A", "A,A", "0"),
-        // names that are no inputs
-        ("IQ", "A,,IQ", "none"),
-        ("A IQ", "A,,IQ", "none"),
-        ("A", "A,,A", "none"),
-        ("A", ",A", "none"),
-    ] {
-        let shown = show_parse(rt.alloc(), text, names)?;
-        assert_eq!(rt; shown.as_str(), wanted);
+    for (text, names, wanted) in FUNCTIONS.iter() {
+        means(&rt, rt.alloc(), text, names, wanted)?;
     }
     Ok(())
 }
 
+const ELEVEN: &str = "A,B,C,D,E,F,G,H,I,J,K";
+
+static REFUSED: [(&str, &str, &str); 20] = [
+    // no function
+    ("", "A", "FunctionForm"),
+    (" ", "A", "FunctionForm"),
+    ("A +", "A", "FunctionForm"),
+    ("+ A", "A", "FunctionForm"),
+    ("A + * A", "A", "FunctionForm"),
+    ("()", "A", "FunctionForm"),
+    ("(A", "A", "FunctionForm"),
+    ("A)", "A", "FunctionForm"),
+    ("!", "A", "FunctionForm"),
+    ("'A", "A", "FunctionForm"),
+    ("A(B)", "A,B", "FunctionForm"),
+    ("A'B", "A,B", "FunctionForm"),
+    ("(A)(B)", "A,B", "FunctionForm"),
+    ("A!B", "A,B", "FunctionForm"),
+    // this before an unknown name
+    ("X +", "A", "FunctionForm"),
+    // an unknown name before too many inputs and before a name that is no input
+    ("X", "A", "UnknownPin"),
+    ("A X IQ", "A,,IQ", "UnknownPin"),
+    ("A B C D E F G H I J K X", ELEVEN, "UnknownPin"),
+    // too many inputs, also before a name that is no input
+    ("A B C D E F G H I J K", ELEVEN, "FunctionWide"),
+    (
+        "A B C D E F G H I J K Q",
+        "A,B,C,D,E,F,G,H,I,J,K,,Q",
+        "FunctionWide",
+    ),
+];
+
 #[test]
 fn texts_that_are_refused(rt: HostRuntime) -> Result<(), Fail> {
-    let eleven = "A,B,C,D,E,F,G,H,I,J,K";
-    for (text, names, wanted) in [
-        // no function
-        ("", "A", "FunctionForm"),
-        (" ", "A", "FunctionForm"),
-        ("A +", "A", "FunctionForm"),
-        ("+ A", "A", "FunctionForm"),
-        ("A + * A", "A", "FunctionForm"),
-        ("()", "A", "FunctionForm"),
-        ("(A", "A", "FunctionForm"),
-        ("A)", "A", "FunctionForm"),
-        ("!", "A", "FunctionForm"),
-        ("'A", "A", "FunctionForm"),
-        ("A(B)", "A,B", "FunctionForm"),
-        ("A'B", "A,B", "FunctionForm"),
-        ("(A)(B)", "A,B", "FunctionForm"),
-        ("A!B", "A,B", "FunctionForm"),
-        // this before an unknown name
-        ("X +", "A", "FunctionForm"),
-        // an unknown name before too many inputs and before a name that is no input
-        ("X", "A", "UnknownPin"),
-        ("A X IQ", "A,,IQ", "UnknownPin"),
-        ("A B C D E F G H I J K X", eleven, "UnknownPin"),
-        // too many inputs, also before a name that is no input
-        ("A B C D E F G H I J K", eleven, "FunctionWide"),
-        (
-            "A B C D E F G H I J K Q",
-            "A,B,C,D,E,F,G,H,I,J,K,,Q",
-            "FunctionWide",
-        ),
-    ] {
-        let shown = show_parse(rt.alloc(), text, names)?;
-        assert_eq!(rt; shown.as_str(), wanted);
+    for (text, names, wanted) in REFUSED.iter() {
+        means(&rt, rt.alloc(), text, names, wanted)?;
     }
     Ok(())
 }
