@@ -1,3 +1,5 @@
 pub mod Completions
 pub mod ForcedFacts
+mod ReadIsSpelled
 pub mod Searches
+mod SpelledIsRead

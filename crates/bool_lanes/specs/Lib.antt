@@ -1,2 +1,3 @@
 pub mod Forced
+pub mod FunctionGrammar
 pub mod Readings
