@@ -1,3 +1,2 @@
 pub mod Forced
-pub mod FunctionGrammar
 pub mod Readings

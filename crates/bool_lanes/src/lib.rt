@@ -4,7 +4,6 @@
 //! inputs make of it. It leaves to others which pins a cell has and which of them are known.
 #![tactic(auto)]
 
-mod function_laws;
 mod known;
 mod names;
 #[cfg(test)]
@@ -16,7 +15,6 @@ mod table;
 #[cfg(test)]
 mod table_tests;
 
-pub use function_laws::{functions_are_read_as_spelled, functions_spell_one_expression};
 pub use known::Known;
 pub use parsing::parse;
 pub use table::Table;

@@ -93,54 +93,61 @@ fn views(alloc: Global, modes: &[&[(&str, i64)]]) -> Result<List<View>, NoMemory
     Ok(views)
 }
 
+/// The clocks of modes by their names and periods, and their clock map as it is shown.
+static MAPS: [(&[&[(&str, i64)]], &str); 9] = [
+    (&[], ""),
+    (&[&[]], "|"),
+    // ranks are by name in byte order
+    (
+        &[&[("b", 10), ("a", 10)], &[("Z", 10), ("y", 10)]],
+        "b 10, a 10, | 0 1| 1 0",
+    ),
+    // three modes with two equal clocks each
+    (
+        &[
+            &[("p", 4), ("q", 4)],
+            &[("z", 4), ("a", 4)],
+            &[("b", 4), ("B", 4)],
+        ],
+        "p 4, q 4, | 0 1| 1 0| 1 0",
+    ),
+    // a later mode has a clock c_1
+    (
+        &[&[("c", 10)], &[("c", 8), ("c_1", 5)]],
+        "c 10, c_2 8, c_1 5, | 0| 1 2",
+    ),
+    (
+        &[&[("A", 10), ("B", 15)], &[("A", 10), ("C", 15)]],
+        "A 10, B 15, | 0 1| 0 1",
+    ),
+    (
+        &[&[("A", 10)], &[("A", 20)], &[("A", 20), ("x", 10)]],
+        "A 10, A_1 20, | 0| 1| 1 0",
+    ),
+    (
+        &[&[("c_1", 1)], &[("c", 2)], &[("c", 3)], &[("c_1", 4)]],
+        "c_1 1, c 2, c_2 3, c_1_1 4, | 0| 1| 2| 3",
+    ),
+    (
+        &[&[("a", 10), ("b", 10), ("c", 10)], &[("x", 10)]],
+        "a 10, b 10, c 10, | 0 1 2| 0",
+    ),
+];
+
+/// Sees that the clock map of these modes is shown as this text.
+fn check_map(rt: &impl Abort, alloc: Global, views: &List<View>, wanted: &str) -> Result<(), Fail> {
+    assert!(rt; are_plain(views));
+    let map = map_clocks(alloc, views)?;
+    let text = shown(alloc, &map)?;
+    assert_eq!(rt; text.as_str(), wanted);
+    Ok(())
+}
+
 #[test]
 fn clocks_of_modes(rt: HostRuntime) -> Result<(), Fail> {
-    let alloc = rt.alloc();
-    let cases: [(&[&[(&str, i64)]], &str); 9] = [
-        (&[], ""),
-        (&[&[]], "|"),
-        // ranks are by name in byte order
-        (
-            &[&[("b", 10), ("a", 10)], &[("Z", 10), ("y", 10)]],
-            "b 10, a 10, | 0 1| 1 0",
-        ),
-        // three modes with two equal clocks each
-        (
-            &[
-                &[("p", 4), ("q", 4)],
-                &[("z", 4), ("a", 4)],
-                &[("b", 4), ("B", 4)],
-            ],
-            "p 4, q 4, | 0 1| 1 0| 1 0",
-        ),
-        // a later mode has a clock c_1
-        (
-            &[&[("c", 10)], &[("c", 8), ("c_1", 5)]],
-            "c 10, c_2 8, c_1 5, | 0| 1 2",
-        ),
-        (
-            &[&[("A", 10), ("B", 15)], &[("A", 10), ("C", 15)]],
-            "A 10, B 15, | 0 1| 0 1",
-        ),
-        (
-            &[&[("A", 10)], &[("A", 20)], &[("A", 20), ("x", 10)]],
-            "A 10, A_1 20, | 0| 1| 1 0",
-        ),
-        (
-            &[&[("c_1", 1)], &[("c", 2)], &[("c", 3)], &[("c_1", 4)]],
-            "c_1 1, c 2, c_2 3, c_1_1 4, | 0| 1| 2| 3",
-        ),
-        (
-            &[&[("a", 10), ("b", 10), ("c", 10)], &[("x", 10)]],
-            "a 10, b 10, c 10, | 0 1 2| 0",
-        ),
-    ];
-    for (modes, expected) in cases {
-        let views = views(alloc, modes)?;
-        assert!(rt; are_plain(&views));
-        let map = map_clocks(alloc, &views)?;
-        let text = shown(alloc, &map)?;
-        assert_eq!(rt; text.as_str(), expected);
+    for (modes, wanted) in MAPS.iter() {
+        let views = views(rt.alloc(), modes)?;
+        check_map(&rt, rt.alloc(), &views, wanted)?;
     }
     Ok(())
 }
@@ -152,14 +159,12 @@ fn sixteen_different_clocks_of_one_name(rt: HostRuntime) -> Result<(), Fail> {
     for period in 2..18 {
         modes.push(view(alloc, &[("clk", period)], &[])?)?;
     }
-    assert!(rt; are_plain(&modes));
-    let map = map_clocks(alloc, &modes)?;
-    let text = shown(alloc, &map)?;
-    assert_eq!(rt;
-        text.as_str(),
-        "clk 2, clk_1 3, clk_2 4, clk_3 5, clk_4 6, clk_5 7, clk_6 8, clk_7 9, clk_8 10, clk_9 11, clk_10 12, clk_11 13, clk_12 14, clk_13 15, clk_14 16, clk_15 17, | 0| 1| 2| 3| 4| 5| 6| 7| 8| 9| 10| 11| 12| 13| 14| 15"
-    );
-    Ok(())
+    check_map(
+        &rt,
+        alloc,
+        &modes,
+        "clk 2, clk_1 3, clk_2 4, clk_3 5, clk_4 6, clk_5 7, clk_6 8, clk_7 9, clk_8 10, clk_9 11, clk_10 12, clk_11 13, clk_12 14, clk_13 15, clk_14 16, clk_15 17, | 0| 1| 2| 3| 4| 5| 6| 7| 8| 9| 10| 11| 12| 13| 14| 15",
+    )
 }
 
 /// The exclusive pairs of the merged clocks of modes, each with its clocks and its exclusive pairs.
@@ -178,11 +183,15 @@ fn exclusive(
     let pairs = exclusive_pairs(alloc, &views, &map.maps, count)?;
     let rows = ExclusiveRows::new(alloc, &views, &map.maps, count)?;
     let mut put_together = List::new(alloc);
-    for first in 0..count {
+    for first in 0..=count {
         rows.push_row(alloc, &mut put_together, first)?;
     }
-    rows.push_row(alloc, &mut put_together, count)?;
     assert!(rt; put_together.as_slice() == pairs.as_slice());
+    Ok(shown_pairs(alloc, &pairs)?)
+}
+
+/// Pairs of places, each in parentheses.
+fn shown_pairs(alloc: Global, pairs: &List<Pair>) -> Result<String, NoMemory> {
     let mut text = String::new(alloc);
     for pair in pairs.iter() {
         let word = format!(in alloc; "({} {})", pair.first, pair.second)?;
@@ -191,30 +200,37 @@ fn exclusive(
     Ok(text)
 }
 
+const A_AND_B: &[(&str, i64)] = &[("A", 10), ("B", 15)];
+
+const B_AND_A: &[(&str, i64)] = &[("B", 15), ("A", 10)];
+
+const A_AND_C: &[(&str, i64)] = &[("A", 10), ("C", 15)];
+
+/// Modes with their clocks and their exclusive pairs, and the exclusive merged clocks.
+static EXCLUSIVE: [(&[(&[(&str, i64)], &[(u32, u32)])], &str); 5] = [
+    // the second mode has both and lets them be timed
+    (&[(A_AND_B, &[(0, 1)]), (A_AND_C, &[])], ""),
+    // the one mode that has both excludes them
+    (&[(A_AND_B, &[(0, 1)]), (&[("A", 10)], &[])], "(0 1)"),
+    // no mode has both
+    (
+        &[
+            (&[("A", 10)], &[]),
+            (&[("A", 20)], &[]),
+            (&[("A", 30)], &[]),
+        ],
+        "(0 1)(0 2)(1 2)",
+    ),
+    // the clocks of the second mode stand the other way round
+    (&[(A_AND_B, &[(0, 1)]), (B_AND_A, &[(0, 1)])], "(0 1)"),
+    (&[(A_AND_B, &[(0, 1)]), (B_AND_A, &[])], ""),
+];
+
 #[test]
 fn exclusive_merged_clocks(rt: HostRuntime) -> Result<(), Fail> {
-    let alloc = rt.alloc();
-    let a_and_b: &[(&str, i64)] = &[("A", 10), ("B", 15)];
-    let a_and_c: &[(&str, i64)] = &[("A", 10), ("C", 15)];
-    let a: &[(&str, i64)] = &[("A", 10)];
-    let b_and_a: &[(&str, i64)] = &[("B", 15), ("A", 10)];
-    // the second mode has both and lets them be timed
-    let text = exclusive(&rt, alloc, &[(a_and_b, &[(0, 1)]), (a_and_c, &[])])?;
-    assert_eq!(rt; text.as_str(), "");
-    // the one mode that has both excludes them
-    let text = exclusive(&rt, alloc, &[(a_and_b, &[(0, 1)]), (a, &[])])?;
-    assert_eq!(rt; text.as_str(), "(0 1)");
-    // no mode has both
-    let text = exclusive(
-        &rt,
-        alloc,
-        &[(a, &[]), (&[("A", 20)], &[]), (&[("A", 30)], &[])],
-    )?;
-    assert_eq!(rt; text.as_str(), "(0 1)(0 2)(1 2)");
-    // the clocks of the second mode stand the other way round
-    let text = exclusive(&rt, alloc, &[(a_and_b, &[(0, 1)]), (b_and_a, &[(0, 1)])])?;
-    assert_eq!(rt; text.as_str(), "(0 1)");
-    let text = exclusive(&rt, alloc, &[(a_and_b, &[(0, 1)]), (b_and_a, &[])])?;
-    assert_eq!(rt; text.as_str(), "");
+    for (modes, wanted) in EXCLUSIVE.iter() {
+        let text = exclusive(&rt, rt.alloc(), modes)?;
+        assert_eq!(rt; text.as_str(), *wanted);
+    }
     Ok(())
 }

@@ -28,27 +28,28 @@ pub places_zero : (r u : ℕ) → places 0 r u ≡ []
 unfolding places
 places_zero r u = refl
 
--- a text before the loop and now, with i places written and `left` still to write
-pub record Writes (start now : List ℕ) (i rest left unit : ℕ) : Type 0 where
-  pub text : start ++ places 6 rest unit ≡ now ++ places (6 - i) left unit
+-- a text before the loop and now, with i of `count` places written and `left` still to write
+pub record Writes (count : ℕ) (start now : List ℕ) (i rest left unit : ℕ) : Type 0 where
+  pub text : start ++ places count rest unit ≡ now ++ places (count - i) left unit
   pub less : left < unit
 
-pub Writes_more : (start now next : List ℕ) (i rest left unit : ℕ) → i < 6 → 0 < left → next ≡ now ++ (48 + left * 10 / unit) ∷ [] → Writes start now i rest left unit → Writes start next (i + 1) rest (left * 10 % unit) unit
-Writes_more start now next i rest left unit h p e w =
-    let k : 6 - i ≡ suc (6 - (i + 1)) = omega arith in
-    let d = places_more (6 - (i + 1)) left unit p in
+pub Writes_more : (count : ℕ) (start now next : List ℕ) (i rest left unit : ℕ) → i < count → 0 < left → next ≡ now ++ (48 + left * 10 / unit) ∷ [] → Writes count start now i rest left unit → Writes count start next (i + 1) rest (left * 10 % unit) unit
+Writes_more count start now next i rest left unit h p e w =
+    let k : count - i ≡ suc (count - (i + 1)) = omega arith in
+    let d = places_more (count - (i + 1)) left unit p in
     record {
       text = w.text ∙ ap (λ j. now ++ places j left unit) k ∙ ap (λ l. now ++ l) d ∙ rw (e, append_assoc) refl;
       less = omega (arith, w.less);
     }
 
-pub Writes_end : (start now : List ℕ) (i rest left unit : ℕ) → left ≡ 0 → Writes start now i rest left unit → now ≡ start ++ places 6 rest unit
-Writes_end start now i rest left unit z w =
-    sym (w.text ∙ ap (λ l. now ++ places (6 - i) l unit) z ∙ ap (λ l. now ++ l) (places_none (6 - i) unit) ∙ append-nil now)
+pub Writes_end : (count : ℕ) (start now : List ℕ) (i rest left unit : ℕ) → left ≡ 0 → Writes count start now i rest left unit → now ≡ start ++ places count rest unit
+Writes_end count start now i rest left unit z w =
+    sym (w.text ∙ ap (λ l. now ++ places (count - i) l unit) z ∙ ap (λ l. now ++ l) (places_none (count - i) unit) ∙ append-nil now)
 
-pub Writes_full : (start now : List ℕ) (rest left unit : ℕ) → Writes start now 6 rest left unit → now ≡ start ++ places 6 rest unit
-unfolding places
-Writes_full start now rest left unit w = sym (w.text ∙ append-nil now)
+pub Writes_full : (count : ℕ) (start now : List ℕ) (rest left unit : ℕ) → Writes count start now count rest left unit → now ≡ start ++ places count rest unit
+Writes_full count start now rest left unit w =
+    let k : count - count ≡ 0 = omega arith in
+    sym (w.text ∙ ap (λ j. now ++ places j left unit) k ∙ ap (λ l. now ++ l) (places_zero left unit) ∙ append-nil now)
 
 pub digit_below : (left unit : ℕ) → left < unit → left * 10 / unit < 10
 digit_below left unit h = div_below (left * 10) unit 10 (omega arith) (omega arith)

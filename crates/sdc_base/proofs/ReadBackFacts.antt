@@ -103,16 +103,19 @@ is_number-time b m u d =
     let g : nat_le n 30 ≡ true = grind (arith, nat_tests, d.few, d.short) in
     rw (e, f, g, d.before, d.behind) refl
 
+-- a quotient's digits and its decimals, read as one number
+pub digits-quotient : (k m u : ℕ) → 0 < u → m / u < 2 ^ 64 → (m % u * 10 ^ k) % u ≡ 0 → digits_value 10 (decimal (m / u) ++ places k (m % u) u) * u ≡ m * 10 ^ length (places k (m % u) u)
+digits-quotient k m u h l z =
+    let v : digits_value 10 (decimal (m / u)) ≡ m / u = digits_value-decimal own (m / u) l in
+    let a : digits_value 10 (decimal (m / u) ++ places k (m % u) u) ≡ digits_value_after 10 (m / u) (places k (m % u) u) =
+    digits_value_after-append 0 (decimal (m / u)) (places k (m % u) u) ∙ ap (λ x. digits_value_after 10 x (places k (m % u) u)) v in
+    let p = digits_value-places k (m % u) u (m / u) (mod_below m u h) z in
+    let w : m / u * u + m % u ≡ m = div-add-mod' m u in
+    ap (λ x. x * u) a ∙ p ∙ ap (λ x. x * 10 ^ length (places k (m % u) u)) w
+
 -- the digits of a time, read as one number
 pub digits-time : (m u : ℕ) → 0 < u → m < 2 ^ 64 → (m % u * 10 ^ 6) % u ≡ 0 → digits_value 10 (decimal (m / u) ++ places 6 (m % u) u) * u ≡ m * 10 ^ length (places 6 (m % u) u)
-digits-time m u h l z =
-    let q = quotient-le m u in
-    let v : digits_value 10 (decimal (m / u)) ≡ m / u = digits_value-decimal own (m / u) (omega arith) in
-    let a : digits_value 10 (decimal (m / u) ++ places 6 (m % u) u) ≡ digits_value_after 10 (m / u) (places 6 (m % u) u) =
-    digits_value_after-append 0 (decimal (m / u)) (places 6 (m % u) u) ∙ ap (λ x. digits_value_after 10 x (places 6 (m % u) u)) v in
-    let p = digits_value-places 6 (m % u) u (m / u) (mod_below m u h) z in
-    let w : m / u * u + m % u ≡ m = div-add-mod' m u in
-    ap (λ x. x * u) a ∙ p ∙ ap (λ x. x * 10 ^ length (places 6 (m % u) u)) w
+digits-time m u h l z = let q = quotient-le m u in digits-quotient 6 m u h (omega arith) z
 
 pub regroup : (d u g m l : ℕ) → d * u ≡ m * l → d * (u * g) ≡ (m * g) * l
 regroup d u g m l h = sym (mul_assoc d u g) ∙ ap (λ x. x * g) h ∙ (grind arith)

@@ -1,5 +1,5 @@
 -- What holds while the rest of a file is read piece by piece, and what the last piece makes of it.
-use Rattle.std.proofs.Common.{◌≡◌, ◌+◌, ◌-◌, ◌≤◌, ◌++◌, ℕ, List, [], length, take, drop, Option, Some, None, Ok, refl, sym, ap, ◌∙◌, arith, length-append, length-take}
+use Rattle.std.proofs.Common.{◌≡◌, ◌+◌, ◌-◌, ◌≤◌, ◌++◌, ℕ, List, length, take, drop, Option, Some, None, Ok, sym, ap, ◌∙◌, arith, length-append, length-take}
 use Rattle.std.proofs.lemmas.List.{take-take, take-append-le}
 use Rattle.std.proofs.lemmas.Grind.{common_steps}
 use Rattle.sdc_base.specs.Files.{Reading, Reads, ReadsNext, rest_of}

@@ -1,3 +1,5 @@
+pub mod Arithmetic
+pub mod ArithmeticLaws
 pub mod Channels
 pub mod Counting
 pub mod Files
@@ -8,3 +10,4 @@ pub mod Number
 pub mod NumberLaws
 pub mod NumberText
 pub mod Time
+pub mod WrittenNumber

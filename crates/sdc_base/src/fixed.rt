@@ -17,7 +17,7 @@ use std::marker::Model;
 use thiserror::Error;
 
 /// What `scaled` is a multiple of where a number is whole.
-const SCALE: u128 = 1_000_000_000;
+pub(crate) const SCALE: u128 = 1_000_000_000;
 
 /// The greatest magnitude of a time, in femtoseconds.
 const LONGEST: u128 = 10_000_000_000_000_000;

@@ -6,10 +6,14 @@
 //! memory and whole reads and writes over them. It leaves what a file holds to the crates above.
 #![tactic(auto)]
 
+mod arithmetic;
+#[cfg(test)]
+mod arithmetic_tests;
 mod counting;
 mod duplicate;
 mod files;
 mod fixed;
+mod fixed_text;
 mod lists;
 mod mem_inputs;
 mod mem_outputs;
@@ -35,7 +39,10 @@ pub use fixed::{Fixed, NumberError};
 pub use lists::{Bits, List};
 pub use memory::{At, NoMemory, Stop};
 pub use memory_forms::{MemInputs, MemOutputs, SureInputs, SureOutputs};
-pub use number_laws::{reading_is_exact, time_texts_read_back, times_are_nearest};
+pub use number_laws::{
+    arithmetic_is_rounded, number_texts_read_back, reading_is_exact, time_texts_read_back,
+    times_are_nearest,
+};
 pub use outside::{Channel, Inputs, NamedBytes, Outputs, Refusal};
 pub use texts::Text;
 pub use times::{TimeBuffer, time_text};

@@ -3,7 +3,8 @@
 ghost use Rattle.sdc_base.specs.declared.memory.Stop.TheVariants as stop;
 ghost use Rattle.std.specs.Prelude.{◌≡◌};
 
-use std::alloc::{AllocError, AllocFailed};
+use crate::duplicate::Duplicate;
+use std::alloc::{AllocError, AllocFailed, Global};
 use thiserror::Error;
 
 /// Memory ran out.
@@ -59,4 +60,12 @@ impl<E, T: Drop> From<AllocFailed<T>> for Stop<E> {
 pub struct At<K> {
     pub line: u32,
     pub kind: K,
+}
+
+impl<K: Duplicate> Duplicate for At<K> {
+    fn copy(&self, alloc: Global) -> Result<At<K>, NoMemory> {
+        let line = self.line;
+        let kind = self.kind.copy(alloc)?;
+        Ok(At { line, kind })
+    }
 }

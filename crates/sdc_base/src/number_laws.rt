@@ -1,6 +1,7 @@
 //! Laws above the definitions of numbers and times, as contracts of functions that do nothing.
 
 ghost use Rattle.std.specs.Prelude.{List, ℕ, ℤ};
+ghost use Rattle.sdc_base.specs.ArithmeticLaws.{FlooredIsFloor, RoundedIsNearest, WholeProductIsExact, NumberTextReadsBack, NumberTextIsPlain};
 ghost use Rattle.sdc_base.specs.Number.{Number};
 ghost use Rattle.sdc_base.specs.NumberLaws.{ReadIsSpelled, SpelledIsRead, RangeIsExact, FormIsExact, TimeIsNearest, TimeRangeIsExact, TimeTextReadsBack, TimeTextIsPlain};
 
@@ -23,4 +24,19 @@ pub fn times_are_nearest()
 pub fn time_texts_read_back()
     ensures back { (fs unit : ℤ) → TimeTextReadsBack fs unit }
     ensures plain { (fs unit : ℤ) → TimeTextIsPlain fs unit }
+{}
+
+/// Rounding is right: what a quotient of whole numbers leaves is less than the divisor and has its sign,
+/// other quotients and products are nearest, ties away from zero, and nothing is rounded of a product of
+/// whole numbers.
+pub fn arithmetic_is_rounded()
+    ensures floor { (n d : ℤ) → FlooredIsFloor n d }
+    ensures nearest { (n d : ℤ) → RoundedIsNearest n d }
+    ensures exact { (a b : Number) → WholeProductIsExact a b }
+{}
+
+/// The text of a number is digits with at most a minus and a point, and is read back as that number.
+pub fn number_texts_read_back()
+    ensures back { (n : Number) → NumberTextReadsBack n }
+    ensures plain { (n : Number) → NumberTextIsPlain n }
 {}

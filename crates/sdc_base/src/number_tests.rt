@@ -4,8 +4,10 @@ use crate::memory::NoMemory;
 use crate::texts::Text;
 use crate::times::{TimeBuffer, time_text};
 use std::alloc::Global;
+use std::process::Abort;
+use std::test::Fail;
 
-const READ: [(&str, i128, bool); 40] = [
+static READ: [(&str, i128, bool); 40] = [
     ("0", 0, true),
     ("5", 5_000_000_000, true),
     ("-5", -5_000_000_000, true),
@@ -61,7 +63,7 @@ const READ: [(&str, i128, bool); 40] = [
 ];
 
 // No point, sign or blank too many, 31 digits, an exponent above 30, digits that are not ASCII's.
-const NO_NUMBER: [&str; 34] = [
+static NO_NUMBER: [&str; 34] = [
     "",
     ".",
     "-.",
@@ -98,7 +100,7 @@ const NO_NUMBER: [&str; 34] = [
     "1f",
 ];
 
-const TOO_GREAT: [&str; 10] = [
+static TOO_GREAT: [&str; 10] = [
     "1000000000000000",
     "-1000000000000000",
     "999999999999999.9999999995",
@@ -112,7 +114,7 @@ const TOO_GREAT: [&str; 10] = [
 ];
 
 // A number, a unit in picoseconds, and the time in femtoseconds, or None where it is too long.
-const TIMES: [(&str, u32, Option<i64>); 29] = [
+static TIMES: [(&str, u32, Option<i64>); 29] = [
     ("2.5", 1000, Some(2_500_000)),
     ("-2.5", 1, Some(-2500)),
     ("0.0000015", 1000, Some(2)),
@@ -145,7 +147,7 @@ const TIMES: [(&str, u32, Option<i64>); 29] = [
 ];
 
 // A time in femtoseconds, a unit in picoseconds, and the text.
-const TEXTS: [(i64, u32, &str); 24] = [
+static TEXTS: [(i64, u32, &str); 24] = [
     (2_500_000, 1000, "2.5"),
     (-7_500_000, 1000, "-7.5"),
     (0, 1000, "0"),
@@ -199,61 +201,85 @@ fn bytes_in(buffer: &mut TimeBuffer, fs: i64, picoseconds: u32) -> &[u8] {
     }
 }
 
+/// Sees that a text is this number.
+fn is_number(rt: &impl Abort, text: &str, scaled: i128, whole: bool) {
+    let number = Fixed::read(text);
+    assert!(rt; number.is_ok(), "{text} is a number");
+    if let Ok(number) = number {
+        assert!(rt; number.scaled == scaled, "at {text}");
+        assert!(rt; number.whole == whole, "at {text}");
+    }
+}
+
+/// Sees that a text is refused so.
+fn is_refused(rt: &impl Abort, text: &str, error: NumberError) {
+    assert!(rt; Fixed::read(text) == Err(error), "at {text}");
+}
+
+/// Sees that a number of units has this time, or none.
+fn has_time(rt: &impl Abort, text: &str, unit: u32, want: Option<i64>) {
+    let time = match Fixed::read(text) {
+        Ok(number) => time_in(number, unit).ok(),
+        Err(_) => None,
+    };
+    assert!(rt; time == want, "{text} units of {unit} ps");
+}
+
+/// Sees that a time has this text.
+fn has_text(
+    rt: &impl Abort,
+    alloc: Global,
+    fs: i64,
+    unit: u32,
+    want: &str,
+) -> Result<(), NoMemory> {
+    let text = text_in(alloc, fs, unit)?;
+    assert!(rt; text.as_str() == want, "{fs} fs in units of {unit} ps");
+    Ok(())
+}
+
+/// Sees that a time has these bytes, in a buffer that was used before.
+fn has_bytes(rt: &impl Abort, buffer: &mut TimeBuffer, fs: i64, unit: u32, want: &str) {
+    let bytes = bytes_in(buffer, fs, unit);
+    assert!(rt; bytes == want.as_bytes(), "{fs} fs in units of {unit} ps");
+}
+
 #[test]
 fn texts_of_numbers(rt: HostRuntime) {
-    for (text, scaled, whole) in READ {
-        let number = Fixed::read(text);
-        assert!(rt; number.is_ok(), "{text} is a number");
-        if let Ok(number) = number {
-            assert_eq!(rt; number.scaled, scaled, "at {text}");
-            assert_eq!(rt; number.whole, whole, "at {text}");
-        }
+    for (text, scaled, whole) in READ.iter() {
+        is_number(&rt, text, *scaled, *whole);
     }
 }
 
 #[test]
 fn texts_of_no_number(rt: HostRuntime) {
-    for text in NO_NUMBER {
-        assert!(rt;
-            Fixed::read(text) == Err(NumberError::NumberForm),
-            "at {text}"
-        );
+    for text in NO_NUMBER.iter() {
+        is_refused(&rt, text, NumberError::NumberForm);
     }
-    for text in TOO_GREAT {
-        assert!(rt;
-            Fixed::read(text) == Err(NumberError::NumberRange),
-            "at {text}"
-        );
+    for text in TOO_GREAT.iter() {
+        is_refused(&rt, text, NumberError::NumberRange);
     }
 }
 
 #[test]
 fn times_of_numbers(rt: HostRuntime) {
-    for (text, unit, want) in TIMES {
-        let time = match Fixed::read(text) {
-            Ok(number) => time_in(number, unit).ok(),
-            Err(_) => None,
-        };
-        assert!(rt; time == want, "{text} units of {unit} ps");
+    for (text, unit, want) in TIMES.iter() {
+        has_time(&rt, text, *unit, *want);
     }
 }
 
 #[test]
-fn texts_of_times(rt: HostRuntime) {
-    for (fs, unit, want) in TEXTS {
-        let text = text_in(rt.alloc(), fs, unit);
-        assert!(rt; text.is_ok());
-        if let Ok(text) = text {
-            assert_eq!(rt; text.as_str(), want, "{fs} fs in units of {unit} ps");
-        }
+fn texts_of_times(rt: HostRuntime) -> Result<(), Fail> {
+    for (fs, unit, want) in TEXTS.iter() {
+        has_text(&rt, rt.alloc(), *fs, *unit, want)?;
     }
+    Ok(())
 }
 
 #[test]
 fn bytes_of_times_in_one_buffer(rt: HostRuntime) {
     let mut buffer = TimeBuffer::new();
-    for (fs, unit, want) in TEXTS {
-        let bytes = bytes_in(&mut buffer, fs, unit);
-        assert!(rt; bytes == want.as_bytes(), "{fs} fs in units of {unit} ps");
+    for (fs, unit, want) in TEXTS.iter() {
+        has_bytes(&rt, &mut buffer, *fs, *unit, want);
     }
 }

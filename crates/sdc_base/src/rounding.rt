@@ -8,10 +8,10 @@ use crate::fixed::NumberError;
 use crate::number_text::Power;
 
 /// One above the greatest magnitude of a number, in units of 10^-9.
-const LIMIT: u128 = 1_000_000_000_000_000_000_000_000;
+pub(crate) const LIMIT: u128 = 1_000_000_000_000_000_000_000_000;
 
 /// The number of decimals that a number keeps.
-const PLACES: u32 = 9;
+pub(crate) const PLACES: u32 = 9;
 
 /// `numerator / divisor`, to nearest, ties up.
 pub(crate) fn nearest(numerator: u128, divisor: u128) -> u128

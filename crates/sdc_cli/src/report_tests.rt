@@ -4,6 +4,7 @@ use crate::report_tree::report_bytes;
 use crate::reports::{ClockRow, LeftRow, ListedRow, MergeReport, ModeClock, Report};
 use sdc_base::{List, NoMemory, Text};
 use std::alloc::Global;
+use std::process::Abort;
 use std::test::Fail;
 
 /// Two modes that share two clocks.
@@ -46,12 +47,31 @@ fn clock(alloc: Global, name: &str, modes: &[(&str, &str)]) -> Result<ClockRow, 
 }
 
 /// The report of a merge that lists and leaves out nothing.
-fn report_of_clocks(alloc: Global, clocks: Vec<ClockRow>) -> Report {
+fn report_of_clocks(alloc: Global, clocks: List<ClockRow>) -> Report {
     Report::Merge(MergeReport {
-        clocks: List::from(clocks),
+        clocks,
         listed: List::new(alloc),
         not_carried: List::new(alloc),
     })
+}
+
+/// The report of a merge with one clock A.
+fn report_of_one(alloc: Global, a: &[(&str, &str)]) -> Result<Report, NoMemory> {
+    let mut clocks = List::new(alloc);
+    clocks.push(clock(alloc, "A", a)?)?;
+    Ok(report_of_clocks(alloc, clocks))
+}
+
+/// The report of a merge with two clocks A and B.
+fn report_of_two(
+    alloc: Global,
+    a: &[(&str, &str)],
+    b: &[(&str, &str)],
+) -> Result<Report, NoMemory> {
+    let mut clocks = List::new(alloc);
+    clocks.push(clock(alloc, "A", a)?)?;
+    clocks.push(clock(alloc, "B", b)?)?;
+    Ok(report_of_clocks(alloc, clocks))
 }
 
 /// A relation of r2/D that is listed with a path of two nodes.
@@ -93,35 +113,33 @@ fn report_of_rows(alloc: Global) -> Result<Report, NoMemory> {
     }))
 }
 
-// Clocks of merges, and their reports by hand.
+/// Sees that a report is written as this text.
+fn is_written(rt: &impl Abort, alloc: Global, report: &Report, text: &str) -> Result<(), Fail> {
+    let bytes = report_bytes(alloc, report)?;
+    assert_eq!(rt; bytes.as_slice(), text.as_bytes(), "{text:?}");
+    Ok(())
+}
+
+/// The clock A of two modes.
+static BOTH: [(&str, &str); 2] = [("m1.sdc", "A"), ("m2.sdc", "A")];
+
+// Merges of two modes that share two clocks and one, of an empty mode, and of a file with an odd name.
 #[test]
 fn reports_of_clocks(rt: HostRuntime) -> Result<(), Fail> {
     let alloc = rt.alloc();
-    let first = clock(alloc, "A", &[("m1.sdc", "A"), ("m2.sdc", "A")])?;
-    let second = clock(alloc, "B", &[("m1.sdc", "B"), ("m2.sdc", "C")])?;
-    let shared = vec![in alloc; first, second]?;
-    let first = clock(alloc, "A", &[("m1.sdc", "A"), ("m2.sdc", "A")])?;
-    let second = clock(alloc, "B", &[("m1.sdc", "B")])?;
-    let half_shared = vec![in alloc; first, second]?;
-    let odd = clock(alloc, "A", &[("a\"\\\u{1}\n\u{e9}/.sdc", "A")])?;
-    let oddly_named = vec![in alloc; odd]?;
-    for (clocks, text) in [
-        (shared, SHARED_REPORT),
-        (half_shared, HALF_SHARED_REPORT),
-        (Vec::new(alloc), EMPTY_REPORT),
-        (oddly_named, ODD_NAME_REPORT),
-    ] {
-        let bytes = report_bytes(alloc, &report_of_clocks(alloc, clocks))?;
-        assert_eq!(rt; bytes.as_slice(), text.as_bytes(), "{text:?}");
-    }
-    Ok(())
+    let shared = report_of_two(alloc, &BOTH, &[("m1.sdc", "B"), ("m2.sdc", "C")])?;
+    let half_shared = report_of_two(alloc, &BOTH, &[("m1.sdc", "B")])?;
+    let empty = report_of_clocks(alloc, List::new(alloc));
+    let oddly_named = report_of_one(alloc, &[("a\"\\\u{1}\n\u{e9}/.sdc", "A")])?;
+    is_written(&rt, alloc, &shared, SHARED_REPORT)?;
+    is_written(&rt, alloc, &half_shared, HALF_SHARED_REPORT)?;
+    is_written(&rt, alloc, &empty, EMPTY_REPORT)?;
+    is_written(&rt, alloc, &oddly_named, ODD_NAME_REPORT)
 }
 
 // A limit that is required and none, a negative time, and a command that is left out.
 #[test]
 fn report_of_listed_relations(rt: HostRuntime) -> Result<(), Fail> {
     let report = report_of_rows(rt.alloc())?;
-    let bytes = report_bytes(rt.alloc(), &report)?;
-    assert_eq!(rt; bytes.as_slice(), ROWS_REPORT.as_bytes());
-    Ok(())
+    is_written(&rt, rt.alloc(), &report, ROWS_REPORT)
 }

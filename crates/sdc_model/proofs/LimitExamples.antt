@@ -1,13 +1,13 @@
 -- Limits by example, on a clock of period 10 ns from a register to another: what the exceptions make of the relation of
 -- its rising edge to itself, 10 ns for setup and 0 for hold, and what latencies and uncertainties add.
 use Rattle.std.proofs.Common.{◌≡◌, refl}
-use Rattle.std.specs.Prelude.{ℕ, ℤ, pos, ◌+ℤ◌, Bool, true, false, [], ◌∷◌, Option, Some, None}
+use Rattle.std.specs.Prelude.{ℕ, ℤ, pos, ◌+ℤ◌, Bool, false, [], ◌∷◌, Option, Some, None}
 use Rattle.std.specs.Option.{option_map}
 use Rattle.sdc_model.specs.declared.clocks.Clock.{Clock}
 use Rattle.sdc_model.specs.declared.clocks.Early.{Early}
 use Rattle.sdc_model.specs.declared.clocks.Form.TheVariants.{Primary}
 use Rattle.sdc_model.specs.declared.constraints.ExCommand.{ExCommand}
-use Rattle.sdc_model.specs.declared.constraints.ExCommand.TheVariants.{FalsePath, Delay, Multicycle}
+use Rattle.sdc_model.specs.declared.constraints.ExCommand.TheVariants.{Delay, Multicycle}
 use Rattle.sdc_model.specs.declared.constraints.Exception.{Exception}
 use Rattle.sdc_model.specs.declared.edge_times.Relation.{Relation}
 use Rattle.sdc_model.specs.declared.modes.Mode.{Mode}
@@ -76,29 +76,7 @@ limit clock side best winner =
     option_map (λ changed. changed +ℤ adjustment (mode_of clock) clock clock ends side)
     (changed_relation periods side (base_relation side related (setup_move periods best)) winner)
 
--- latencies of 1 ns at least and 3 ns at most, uncertainties of 0.2 ns and 0.1 ns
-late_setup : limit (clock_with 1000000 3000000 200000 100000) Setup None None ≡ Some (pos 7800000)
-late_setup = refl
-
-late_hold : limit (clock_with 1000000 3000000 200000 100000) Hold None None ≡ Some (pos 2100000)
-late_hold = refl
-
--- a setup multicycle of 2 with a hold multicycle of 1, and without one
-two_and_one_setup : limit (clock_with 0 0 0 0) Setup None (Some (exception Multicycle Setup (pos 2) false)) ≡ Some (pos 20000000)
-two_and_one_setup = refl
-
-two_and_one_hold : limit (clock_with 0 0 0 0) Hold (Some (exception Multicycle Setup (pos 2) false))
-    (Some (exception Multicycle Hold (pos 1) true)) ≡ Some (pos 0)
-two_and_one_hold = refl
-
-two_alone_hold : limit (clock_with 0 0 0 0) Hold (Some (exception Multicycle Setup (pos 2) false)) None ≡ Some (pos 10000000)
-two_alone_hold = refl
-
 -- a delay that wins on hold stands as it is, whatever multicycle is best for setup
-delay_hold : limit (clock_with 0 0 0 0) Hold (Some (exception Multicycle Setup (pos 2) false))
+pub delay_hold : limit (clock_with 0 0 0 0) Hold (Some (exception Multicycle Setup (pos 2) false))
     (Some (exception Delay Hold (pos 3000000) false)) ≡ Some (pos 3000000)
 delay_hold = refl
-
--- no limit under a false path
-pub false_setup : limit (clock_with 0 0 0 0) Setup None (Some (exception FalsePath Setup (pos 0) false)) ≡ None
-false_setup = refl

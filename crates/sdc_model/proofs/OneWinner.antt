@@ -1,13 +1,16 @@
--- Of two exceptions not both stand before the other, so no two of them win.
-use Rattle.std.proofs.Common.{◌≡◌, ◌≢◌, ℕ, ◌<◌, List, sym, ap, inl, inr, arith}
-use Rattle.std.specs.Prelude.{◌⊎◌, ℤ}
+-- Of two exceptions not both stand before the other, so no two of them win, and none that matches stands before the winner.
+use Rattle.std.proofs.Common.{◌≡◌, ◌≢◌, ◌∙◌, ℕ, ◌<◌, List, Some, sym, ap, subst, inl, inr, arith}
+use Rattle.std.specs.Prelude.{◌⊎◌, ℤ, slice_get}
 use Rattle.std.proofs.lemmas.Bool.{cases_lt}
 use Rattle.std.proofs.lemmas.Int.{ints}
+use Rattle.std.proofs.lemmas.Option.{same_Some}
 use Rattle.sdc_model.specs.declared.constraints.ExCommand.{ExCommand}
 use Rattle.sdc_model.specs.declared.constraints.Exception.{Exception}
+use Rattle.sdc_model.specs.declared.paths.Path.{Path}
 use Rattle.sdc_model.specs.declared.paths.Periods.{Periods}
 use Rattle.sdc_model.specs.declared.pins.Side.{Side}
 use Rattle.sdc_model.specs.declared.pins.Side.TheVariants.{Setup, Hold}
+use Rattle.sdc_model.specs.Matching.{Matches, MatchesAt}
 use Rattle.sdc_model.specs.Winner.{command_rank, flags, IsStricter, IsWinner, resulting_of, StandsBefore}
 
 same_or_not : (a b : ℕ) → (a ≡ b) ⊎ (a ≢ b)
@@ -63,3 +66,29 @@ one_winner exceptions Match side periods place other one two = elim (same_or_not
   | inr apart ↦ absurd (before_apart side periods one.exception place two.exception other
       (one.best other two.exception two.is two.matches (λ e. apart (sym e))) (two.best place one.exception one.is one.matches apart))
 ]
+
+-- no exception stands before itself
+not_before_itself : (exceptions : List Exception) (side : Side) (periods : Periods) (place at : ℕ) (exception other : Exception) → at ≡ place
+    → slice_get exceptions place ≡ Some exception → slice_get exceptions at ≡ Some other → StandsBefore side periods other at exception place → ⊥
+not_before_itself exceptions side periods place at exception other same is is_other before =
+    let here : slice_get exceptions place ≡ Some other = subst (λ n. slice_get exceptions n ≡ Some other) same is_other in
+    let one : other ≡ exception = same_Some other exception (sym here ∙ is) in
+    let there : StandsBefore side periods other place exception place = subst (λ n. StandsBefore side periods other n exception place) same before in
+    let itself : StandsBefore side periods exception place exception place = subst (λ e. StandsBefore side periods e place exception place) one there in
+    before_apart side periods exception place exception place itself itself
+
+pub best_match : (exceptions : List Exception) (path : Path) (side : Side) (periods : Periods) (place : ℕ) (exception : Exception)
+    → slice_get exceptions place ≡ Some exception → IsWinner exceptions (MatchesAt exceptions path side) side periods place
+    → Matches exception side path
+    × ((at : ℕ) (other : Exception) → slice_get exceptions at ≡ Some other → Matches other side path
+    → StandsBefore side periods other at exception place → ⊥)
+best_match exceptions path side periods place exception is winner =
+    let here : exception ≡ winner.exception = same_Some exception winner.exception (sym is ∙ winner.is) in
+    let found : winner.matches.0 ≡ exception = same_Some winner.matches.0 exception (sym winner.matches.1 ∙ is) in (
+      subst (λ e. Matches e side path) found winner.matches.2,
+      λ at other is_other matches before. elim (same_or_not at place) [
+        | inl same ↦ not_before_itself exceptions side periods place at exception other same is is_other before
+        | inr apart ↦ before_apart side periods winner.exception place other at (winner.best at other is_other (other, is_other, matches) apart)
+            (subst (λ e. StandsBefore side periods other at e place) here before)
+      ],
+    )

@@ -61,7 +61,7 @@ by pin = source.Pin (record { 0 = pin })
 abbrev register : List ℕ → ℕ → CellInfo
 register name first = record { name = name; kind = 0; first = record { 0 = first }; count = 3 }
 
-abbrev two_registers : Design
+abbrev pub two_registers : Design
 two_registers = record {
   top = codes "top";
   unit = pos 1000000;
@@ -92,7 +92,7 @@ its_kind : (place : ℕ) (cell : CellInfo) (kind : LibCell) → IsCell two_regis
 its_kind place cell kind is =
     same_Some flip_flop kind (subst (λ n. slice_get two_registers.kinds n ≡ Some kind) (first_pins place cell is.is).0 is.of_kind)
 
-only : {X : Type 0} (x y : X) (k : ℕ) → k < 1 → get_or (x ∷ []) k y ≡ y → x ≡ y
+pub only : {X : Type 0} (x y : X) (k : ℕ) → k < 1 → get_or (x ∷ []) k y ≡ y → x ≡ y
 only x y zero below e = e
 only x y (suc k) below e = absurd (omega arith)
 
@@ -104,11 +104,11 @@ rising Fall Rise e = absurd (false≢true e)
 rising Fall Fall e = absurd (false≢true e)
 
 -- pins of a register by the first one: its clock pin and its output
-abbrev Launch : ℕ → ℕ → Type 0
-Launch from to = ((from ≡ 4) × (to ≡ 5)) ⊎ ((from ≡ 7) × (to ≡ 8))
+abbrev pub LaunchPins : ℕ → ℕ → Type 0
+LaunchPins from to = ((from ≡ 4) × (to ≡ 5)) ⊎ ((from ≡ 7) × (to ≡ 8))
 
 library_arcs : (launch : Bool) (from to : Node) → IsLibraryArc two_registers launch from to
-    → (true ≡ launch) × (from.edge ≡ Rise) × Launch from.pin.0 to.pin.0
+    → (true ≡ launch) × (from.edge ≡ Rise) × LaunchPins from.pin.0 to.pin.0
 library_arcs launch from to arc =
     let kind = its_kind arc.place arc.cell arc.kind arc.is_cell in
     let has : Contains flip_flop.arcs arc.arc = subst (λ (k : LibCell). Contains k.arcs arc.arc) (sym kind) arc.is_arc in
@@ -140,11 +140,11 @@ rules (suc zero) d below = (refl, refl, refl)
 rules (suc (suc k)) d below = absurd (omega arith)
 
 -- a data pin and the clock pin that it is checked against
-abbrev Checked : ℕ → ℕ → Type 0
-Checked end clock = ((end ≡ 3) × (clock ≡ 4)) ⊎ ((end ≡ 6) × (clock ≡ 7))
+abbrev pub CheckedPins : ℕ → ℕ → Type 0
+CheckedPins end clock = ((end ≡ 3) × (clock ≡ 4)) ⊎ ((end ≡ 6) × (clock ≡ 7))
 
 checks_are : (check : Check) → IsCheck two_registers check
-    → (check.clock.edge ≡ Rise) × Checked check.end.0 check.clock.pin.0
+    → (check.clock.edge ≡ Rise) × CheckedPins check.end.0 check.clock.pin.0
 checks_are check is =
     let kind = its_kind is.place is.cell is.kind is.is_cell in
     let has : Contains flip_flop.checks is.rule = subst (λ (k : LibCell). Contains k.checks is.rule) (sym kind) is.is_rule in
@@ -163,8 +163,8 @@ checks_are check is =
 -- ---- its nets
 
 -- the load and the driver of each net arc
-abbrev Net : ℕ → ℕ → Type 0
-Net to from =
+abbrev pub NetPins : ℕ → ℕ → Type 0
+NetPins to from =
     ((to ≡ 2) × (from ≡ 8)) ⊎ (((to ≡ 3) × (from ≡ 1)) ⊎ (((to ≡ 4) × (from ≡ 0)) ⊎ (((to ≡ 6) × (from ≡ 5)) ⊎ ((to ≡ 7) × (from ≡ 0)))))
 
 -- a pin's number and one, or 0 where nothing drives
@@ -178,7 +178,7 @@ same_number m n e = omega arith
 nothing_drives : (n : ℕ) → 0 ≡ suc n → ⊥
 nothing_drives n e = omega arith
 
-drivers : (to : ℕ) (from : Pin) → driving (driver_of two_registers to) ≡ suc from.0 → Net to from.0
+drivers : (to : ℕ) (from : Pin) → driving (driver_of two_registers to) ≡ suc from.0 → NetPins to from.0
 unfolding driving
 drivers zero from e = absurd (nothing_drives from.0 e)
 drivers (suc zero) from e = absurd (nothing_drives from.0 e)
@@ -192,11 +192,11 @@ drivers (suc (suc (suc (suc (suc (suc (suc (suc zero)))))))) from e = absurd (no
 drivers (suc (suc (suc (suc (suc (suc (suc (suc (suc to))))))))) from e = absurd (nothing_drives from.0 e)
 
 -- its net arcs: five nets, each transition to the same one
-nets_are : (from to : Node) → IsNetArc two_registers from to → (from.edge ≡ to.edge) × Net to.pin.0 from.pin.0
+nets_are : (from to : Node) → IsNetArc two_registers from to → (from.edge ≡ to.edge) × NetPins to.pin.0 from.pin.0
 unfolding driving
 nets_are from to arc = (arc.same_edge, drivers to.pin.0 from.pin (ap driving arc.drives))
 
-launches_are : (from to : Node) → IsLaunchArc two_registers from to → (from.edge ≡ Rise) × Launch from.pin.0 to.pin.0
+launches_are : (from to : Node) → IsLaunchArc two_registers from to → (from.edge ≡ Rise) × LaunchPins from.pin.0 to.pin.0
 launches_are from to arc = let is = library_arcs true from to arc in (is.1, is.2)
 
 -- ---- and all of these are arcs and checks of it
@@ -246,7 +246,7 @@ net_at from to f t edge from_is to_is drives driver other outer =
       not_checked = subst (λ n. IsChecked two_registers n → ⊥) (sym from_is) (free f outer).1;
     }
 
-net_of : (from to : Node) → (from.edge ≡ to.edge) × Net to.pin.0 from.pin.0 → IsNetArc two_registers from to
+net_of : (from to : Node) → (from.edge ≡ to.edge) × NetPins to.pin.0 from.pin.0 → IsNetArc two_registers from to
 unfolding is_other
 net_of from to (edge, inl at) = net_at from to 8 2 edge at.1 at.0 refl (inl refl) refl (inr (inr refl))
 net_of from to (edge, inr (inl at)) = net_at from to 1 3 edge at.1 at.0 refl (inr refl) refl (inl (omega arith))
@@ -281,7 +281,7 @@ launch_at from to place is edge from_is to_is from_not to_not = record {
   to_has_arcs = to_not;
 }
 
-launch_of : (from to : Node) → (from.edge ≡ Rise) × Launch from.pin.0 to.pin.0 → IsLaunchArc two_registers from to
+launch_of : (from to : Node) → (from.edge ≡ Rise) × LaunchPins from.pin.0 to.pin.0 → IsLaunchArc two_registers from to
 unfolding is_other
 launch_of from to (edge, inl at) = launch_at from to 0 (record { is = refl; of_kind = refl }) edge at.0 at.1
     (subst (λ n. IsOther two_registers n → ⊥) (sym at.0) (not_other 4 refl)) (subst (λ n. IsOther two_registers n → ⊥) (sym at.1) (not_other 5 refl))
@@ -292,7 +292,7 @@ side_rule : (side : Side) → Contains flip_flop.checks (check_of side)
 side_rule Setup = (0, omega arith, refl)
 side_rule Hold = (1, omega arith, refl)
 
-check_of_it : (check : Check) → (check.clock.edge ≡ Rise) × Checked check.end.0 check.clock.pin.0 → IsCheck two_registers check
+check_of_it : (check : Check) → (check.clock.edge ≡ Rise) × CheckedPins check.end.0 check.clock.pin.0 → IsCheck two_registers check
 check_of_it check (edge, inl at) = record {
   place = 0;
   cell = register_at 0;
@@ -319,13 +319,13 @@ check_of_it check (edge, inr at) = record {
 }
 
 -- ten net arcs: five nets, each transition to the same one
-pub nets : (from to : Node) → IsNetArc two_registers from to ↔ ((from.edge ≡ to.edge) × Net to.pin.0 from.pin.0)
+pub nets : (from to : Node) → IsNetArc two_registers from to ↔ ((from.edge ≡ to.edge) × NetPins to.pin.0 from.pin.0)
 nets from to = (nets_are from to, net_of from to)
 
 -- four launch arcs: from the rising edge of a register's clock pin to both edges of its output
-pub launches : (from to : Node) → IsLaunchArc two_registers from to ↔ ((from.edge ≡ Rise) × Launch from.pin.0 to.pin.0)
+pub launches : (from to : Node) → IsLaunchArc two_registers from to ↔ ((from.edge ≡ Rise) × LaunchPins from.pin.0 to.pin.0)
 launches from to = (launches_are from to, launch_of from to)
 
 -- four checks: on each side, of a data pin against the rising edge of the register's clock pin
-pub checks : (check : Check) → IsCheck two_registers check ↔ ((check.clock.edge ≡ Rise) × Checked check.end.0 check.clock.pin.0)
+pub checks : (check : Check) → IsCheck two_registers check ↔ ((check.clock.edge ≡ Rise) × CheckedPins check.end.0 check.clock.pin.0)
 checks check = (checks_are check, check_of_it check)

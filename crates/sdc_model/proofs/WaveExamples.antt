@@ -105,7 +105,7 @@ of_no_clock : waves_of (mode_of (halved 3 None ∷ [])) (arriving (0 ∷ [])) �
 unfolding waves_of
 of_no_clock = refl
 
--- clock 1 and clock 2 are each other's masters; clock 0, below them, has no fault of its own
-pub of_each_other : waves_of (mode_of (halved 3 (Some 1) ∷ halved 4 (Some 2) ∷ halved 5 (Some 1) ∷ [])) (arriving []) ≡ fails 4 MasterCycle
+-- two clocks, each the one other clock that arrives at the source of the other
+pub of_each_other : waves_of (mode_of (halved 3 None ∷ halved 4 None ∷ [])) (arriving (0 ∷ 1 ∷ [])) ≡ fails 3 MasterCycle
 unfolding waves_of
 of_each_other = refl

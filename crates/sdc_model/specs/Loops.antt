@@ -47,7 +47,7 @@ pub record IsConflict (analyses : List Analysis) (pin source_mode passing_mode :
   pub is_none : IsSource passing.mode.clocks (record { 0 = pin }) → ⊥
   pub passes : ClockArrives (Alive passing) passing.mode.clocks clock (record { 0 = pin })
 
--- one conflict comes before another: by pin, then by source mode, then by passing mode
+-- one conflict comes before another, or is it: by pin, then by source mode, then by passing mode
 abbrev pub ConflictBefore : ℕ → ℕ → ℕ → ℕ → ℕ → ℕ → Type 0
 ConflictBefore pin source_mode passing_mode other_pin other_source other_passing =
     (pin < other_pin) ⊎ ((pin ≡ other_pin) × ((source_mode < other_source)

@@ -1,8 +1,7 @@
 -- What the modes of a merge ask of a path with merged clocks. This project's own rule.
 -- It reads: a mode requires a path on a side where it times the same nodes under clock edges that are the path's, with
 -- its own limit. The requirement of a path is the strictest of these limits; a path that no mode times has none.
-use Rattle.std.specs.Prelude.{◌≡◌, ℤ, List, Option, Some, None}
-use Rattle.std.specs.List.{Contains}
+use Rattle.std.specs.Prelude.{◌≡◌, ℕ, ℤ, List, Option, Some, None}
 use Rattle.sdc_model.specs.declared.paths.Path.{Path}
 use Rattle.sdc_model.specs.declared.pins.Side.{Side}
 use Rattle.sdc_model.specs.AnalysedModes.{AnalysedMode, InSomeMode}
@@ -22,12 +21,16 @@ IsStrictest side = IsBest (IsAsStrict side)
 
 -- ---- requirements
 
+-- a path with a mode's clocks is this one with merged clocks: the same nodes, under clock edges that are its own
+pub record IsOwnPath (numbers : List ℕ) (own path : Path) : Type 0 where
+  pub nodes : own.nodes ≡ path.nodes
+  pub launch : IsMappedEdge numbers own.launch path.launch
+  pub capture : IsMappedEdge numbers own.capture path.capture
+
 -- a mode requires a path with merged clocks on a side, with this limit
 pub record IsRequiredBy (mode : AnalysedMode) (path : Path) (side : Side) (limit : ℤ) : Type 0 where
   pub own : Path
-  pub nodes : own.nodes ≡ path.nodes
-  pub launch : IsMappedEdge mode.numbers own.launch path.launch
-  pub capture : IsMappedEdge mode.numbers own.capture path.capture
+  pub is_own : IsOwnPath mode.numbers own path
   pub timed : IsTimed mode.analysis own side limit
 
 abbrev pub IsRequired : List AnalysedMode → Path → Side → ℤ → Type 0

@@ -77,19 +77,21 @@ IsShape (Divide n) = IsShapeNumber n
 IsShape (Multiply n) = IsShapeNumber n
 IsShape (Edges rise fall next) = (1 ≤ rise) × (rise < fall) × (fall < next) × (next ≤ 1000000)
 
-abbrev pub IsMaster : Mode → Option ℕ → Type 0
-IsMaster mode None = Unit {0}
-IsMaster mode (Some master) = master < length mode.clocks
+-- a master that is named stands before its clock
+abbrev pub IsMasterOf : ℕ → Option ℕ → Type 0
+IsMasterOf place None = Unit {0}
+IsMasterOf place (Some master) = master < place
 
 -- a clock without sources has a waveform of its own; a source is any pin
-abbrev pub IsFormOf : Design → Mode → Form → List Pin → Type 0
-IsFormOf design mode (Primary wave) [] = IsPrintableWave wave
-IsFormOf design mode (Primary wave) (pin ∷ pins) = IsPrintableWave wave × ArePins AnyPin design (pin ∷ pins)
-IsFormOf design mode (Generated source master shape invert) sources =
-    (source.0 < length design.pins) × IsMaster mode master × IsShape shape × ArePins AnyPin design sources
+abbrev pub IsFormOf : Design → ℕ → Form → List Pin → Type 0
+IsFormOf design place (Primary wave) [] = IsPrintableWave wave
+IsFormOf design place (Primary wave) (pin ∷ pins) = IsPrintableWave wave × ArePins AnyPin design (pin ∷ pins)
+IsFormOf design place (Generated source master shape invert) sources =
+    (source.0 < length design.pins) × IsMasterOf place master × IsShape shape × ArePins AnyPin design sources
 
-pub record IsWellFormedClock (design : Design) (mode : Mode) (clock : Clock) : Type 0 where
-  pub form : IsFormOf design mode clock.form clock.sources
+-- the clock at a place of its mode
+pub record IsWellFormedClock (design : Design) (place : ℕ) (clock : Clock) : Type 0 where
+  pub form : IsFormOf design place clock.form clock.sources
   pub latency : IsLatency clock.latency
   pub setup_uncertainty : IsTime clock.setup_uncertainty
   pub hold_uncertainty : IsTime clock.hold_uncertainty
@@ -173,7 +175,7 @@ pub record IsWellFormedException (design : Design) (mode : Mode) (exception : Ex
 
 pub record IsWellFormedMode (design : Design) (mode : Mode) : Type 0 where
   pub few : length mode.clocks ≤ 16384
-  pub clocks : All (IsWellFormedClock design mode) mode.clocks
+  pub clocks : (place : ℕ) (clock : Clock) → slice_get mode.clocks place ≡ Some clock → IsWellFormedClock design place clock
   pub names : AreGoodNames (map (λ (clock : Clock). clock.name) mode.clocks)
   pub exclusive : ArePairs (length mode.clocks) mode.exclusive
   pub cases : All (λ (set : CaseSet). set.pin.0 < length design.pins) mode.cases

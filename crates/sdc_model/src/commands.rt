@@ -68,3 +68,12 @@ pub struct Next {
     pub end: usize,
     pub line: u32,
 }
+
+impl Duplicate for Next {
+    fn copy(&self, alloc: Global) -> Result<Next, NoMemory> {
+        let command = self.command.copy(alloc)?;
+        let end = self.end.copy(alloc)?;
+        let line = self.line.copy(alloc)?;
+        Ok(Next { command, end, line })
+    }
+}

@@ -1,10 +1,11 @@
 //! The kinds of fault of a source, and a fault with its place.
 
-use sdc_base::{Duplicate, NoMemory};
+use crate::fault_kinds::{DesignKind, ModeKind, VerilogKind};
+use sdc_base::{Duplicate, NoMemory, NumberError};
 use std::alloc::Global;
 use thiserror::Error;
 
-/// Faults of a script (Tcl).
+/// Faults of a script (Tcl). The subset that is read is this project's own.
 #[derive(Clone, Copy, Debug, PartialEq, Eq, PartialOrd, Ord, Error)]
 pub enum TclKind {
     /// A brace, quote or bracket without its end.
@@ -16,17 +17,65 @@ pub enum TclKind {
     /// A word that cannot be read.
     #[error("a word cannot be read")]
     BadWord,
+    /// A variable that is not set.
+    #[error("a variable is not set")]
+    UnknownVariable,
+    /// An expression of a form, or of operands, that are not taken.
+    #[error("an expression cannot be evaluated")]
+    BadExpr,
+    /// A command with more or fewer words than it takes.
+    #[error("a command has a wrong number of words")]
+    WrongArgs,
+    /// A number that cannot be read or computed.
+    #[error("{0}")]
+    Number(NumberError),
+    /// More than 100 levels of brackets, bodies and parentheses.
+    #[error("more than 100 levels")]
+    TooDeep,
+    /// More than 30,000,000 commands in one file.
+    #[error("more than 30,000,000 commands")]
+    TooManyCommands,
 }
 
-/// Faults of a constraint file (SDC).
+impl Duplicate for TclKind {
+    fn copy(&self, _alloc: Global) -> Result<TclKind, NoMemory> {
+        Ok(*self)
+    }
+}
+
+/// Faults of a constraint file (SDC 2.1). The profile that is read is this project's own.
 #[derive(Clone, Copy, Debug, PartialEq, Eq, PartialOrd, Ord, Error)]
 pub enum SdcKind {
+    /// A name that is no command.
+    #[error("no command of this name")]
+    UnknownCommand,
+    /// An option that is unknown, missing or excluded, or a wrong number of arguments.
+    #[error("an option or an argument is wrong")]
+    BadOption,
+    /// A value that cannot be read or is out of range, or an object of a wrong kind.
+    #[error("a value or an object is wrong")]
+    BadValue,
     /// A command, option or value that this tool leaves out.
     #[error("outside what is read here")]
     OutOfProfile,
-    /// More clocks than a run takes.
-    #[error("more clocks than are taken")]
+    /// A second clock of a name.
+    #[error("a second clock of this name")]
+    ClockRedefined,
+    /// A clock on a pin that has one already, without `-add`.
+    #[error("a second clock on this pin")]
+    ClockOverwritten,
+    /// A delay of a merge that is too great to be printed and read again.
+    #[error("a delay too great for a merge")]
+    DelayRange,
+    /// More clocks, exceptions or through lists than a run takes.
+    #[error("more than are taken")]
     TooMany,
+}
+
+impl Duplicate for SdcKind {
+    fn copy(&self, _alloc: Global) -> Result<SdcKind, NoMemory> {
+        Ok(*self)
+    }
 }
 
 /// Faults of a library (Liberty).
@@ -65,9 +114,29 @@ pub enum Kind {
     Tcl(TclKind),
     #[error("{0}")]
     Sdc(SdcKind),
+    #[error("{0}")]
+    Lib(LibKind),
+    #[error("{0}")]
+    Verilog(VerilogKind),
+    #[error("{0}")]
+    Design(DesignKind),
+    #[error("{0}")]
+    Mode(ModeKind),
+    /// The file is no UTF-8 text.
+    #[error("not a text")]
+    NotText,
     /// The file has more bytes than are read.
     #[error("more than 268,435,456 bytes")]
     TooLong,
+    /// The name is no checked pin and no output port.
+    #[error("no endpoint of this name")]
+    NoEndpoint,
+}
+
+impl Duplicate for Kind {
+    fn copy(&self, _alloc: Global) -> Result<Kind, NoMemory> {
+        Ok(*self)
+    }
 }
 
 /// The first fault of a run: the place of the file's word (the command's word has place 0), the line in the
@@ -77,4 +146,10 @@ pub struct Fault {
     pub file: u32,
     pub line: u32,
     pub kind: Kind,
+}
+
+impl Duplicate for Fault {
+    fn copy(&self, _alloc: Global) -> Result<Fault, NoMemory> {
+        Ok(*self)
+    }
 }

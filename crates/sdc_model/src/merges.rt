@@ -1,9 +1,11 @@
 //! The merged mode of several modes, with all that a report says of it. This project's own.
 
+use crate::analyses::Cycle;
+use crate::fault_kinds::ModeKind;
 use crate::modes::Mode;
 use crate::pins::{ClockEdge, Node, Pin, Side};
 use crate::views::ClockMap;
-use sdc_base::{Duplicate, List, NoMemory, Text};
+use sdc_base::{At, Duplicate, List, NoMemory, Text};
 use std::alloc::Global;
 
 /// A relation at an endpoint that the merged mode times without need or too strictly, on a path from the launch
@@ -86,9 +88,41 @@ impl Duplicate for Merged {
     }
 }
 
-/// Why modes have no merged mode.
-#[derive(Clone, Copy, Debug, PartialEq, Eq, PartialOrd, Ord)]
+/// Why modes have no merged mode. `specs/Stops.antt` says when each comes.
+#[derive(Debug, Drop, PartialEq, Eq)]
 pub enum MergeStop {
-    /// Counting and listing take more steps than the budget.
+    /// The mode of this place has no analysis over the design.
+    Mode(u32, At<ModeKind>),
+    /// The pin is a clock source in one mode, and a clock of another mode, in which it is none, arrives at it.
+    Conflict {
+        pin: Pin,
+        source_mode: u32,
+        passing_mode: u32,
+    },
+    /// The arcs that are alive in the merged mode have a loop.
+    Loop(Cycle),
+    /// There are more classes than this.
     Budget(u64),
+}
+
+impl Duplicate for MergeStop {
+    fn copy(&self, alloc: Global) -> Result<MergeStop, NoMemory> {
+        match self {
+            MergeStop::Mode(mode, fault) => Ok(MergeStop::Mode(*mode, *fault)),
+            MergeStop::Conflict {
+                pin,
+                source_mode,
+                passing_mode,
+            } => Ok(MergeStop::Conflict {
+                pin: *pin,
+                source_mode: *source_mode,
+                passing_mode: *passing_mode,
+            }),
+            MergeStop::Loop(cycle) => {
+                let cycle = cycle.copy(alloc)?;
+                Ok(MergeStop::Loop(cycle))
+            }
+            MergeStop::Budget(budget) => Ok(MergeStop::Budget(*budget)),
+        }
+    }
 }

@@ -1,7 +1,7 @@
 -- Words of a command and commands of a text, one behind the other.
-use Rattle.std.proofs.Common.{◌≡◌, ◌<◌, ◌≤◌, ◌+◌, ◌-◌, ◌==◌, ◌++◌, ◌||◌, ◌&&◌, inl, inr, ◌⊎◌, ℕ, Bool, true, false, not, List, [], ◌∷◌, Option, Some, None, Result, Ok, Err, drop, take, length, get_or, if◌then◌else◌, refl, sym, ap, subst, ◌∙◌, arith, append_assoc}
+use Rattle.std.proofs.Common.{◌≡◌, ◌<◌, ◌≤◌, ◌-◌, ◌==◌, ◌++◌, ◌||◌, ◌&&◌, inl, inr, ◌⊎◌, ℕ, Bool, true, false, List, [], ◌∷◌, Option, Some, None, Result, Ok, Err, drop, take, length, refl, sym, ap, subst, ◌∙◌, arith, append_assoc}
 use Rattle.std.proofs.lemmas.Bool.{cases_Bool, both_ways, or_parts, not-true}
-use Rattle.std.proofs.lemmas.List.{drop_more, length-drop, append-nil}
+use Rattle.std.proofs.lemmas.List.{length-drop, append-nil}
 use Rattle.std.specs.Str.{IsCharBoundary, IsUtf8}
 use Rattle.sdc_base.specs.Gives.{Meets}
 use Rattle.sdc_base.specs.declared.memory.At.{At}

@@ -4,7 +4,6 @@ use Rattle.std.proofs.lemmas.List.{length-drop}
 use Rattle.sdc_base.specs.declared.memory.At.{At}
 use Rattle.sdc_model.specs.declared.commands.Command.{Command}
 use Rattle.sdc_model.specs.declared.commands.Next.{Next}
-use Rattle.sdc_model.specs.declared.commands.Word.{Word}
 use Rattle.sdc_model.specs.declared.kinds.TclKind.{TclKind}
 use Rattle.sdc_model.specs.Bytes.{before}
 use Rattle.sdc_model.specs.Commands.{ArePieces, CommandFront, FirstFrom, IsBraced, IsCommand, IsWordOf, Opening, Place, Splits, StandsCommand, StandsWord, WordFront, bare_opens, brace_opens, command_end, command_place, ended_bare, ended_closed, ended_command, opening, quote_opens}

@@ -1,37 +1,31 @@
 -- Pieces of a word at their places.
-use Rattle.std.proofs.Common.{◌≡◌, ◌<◌, ◌≤◌, ◌+◌, ◌-◌, ◌==◌, ◌++◌, ◌||◌, inl, inr, ◌⊎◌, ℕ, Bool, true, false, not, List, [], ◌∷◌, Option, Some, None, Result, Ok, Err, drop, take, length, get_or, if◌then◌else◌, refl, sym, ap, subst, ◌∙◌, arith}
+use Rattle.std.proofs.Common.{◌≡◌, ◌<◌, ◌≤◌, ◌+◌, ◌-◌, ◌==◌, ◌++◌, inl, inr, ℕ, Bool, true, false, List, [], ◌∷◌, Result, Ok, drop, take, length, get_or, refl, sym, ap, subst, ◌∙◌, arith}
 use Rattle.std.proofs.lemmas.Bool.{cases_Bool, both_ways, eqb-true}
 use Rattle.std.proofs.lemmas.Bool.Decides.{nat_tests}
 use Rattle.std.proofs.lemmas.List.{drop_more, length-drop}
-use Rattle.std.proofs.lemmas.Str.{IsCharBoundary-after_ascii, IsCharBoundary-before_ascii}
-use Rattle.std.specs.Str.{IsCharBoundary, IsUtf8}
+use Rattle.std.proofs.lemmas.Str.{IsCharBoundary-after_ascii}
+use Rattle.std.specs.Str.{IsCharBoundary}
 use Rattle.sdc_base.specs.Gives.{Meets}
 use Rattle.sdc_base.specs.declared.memory.Stop.{Stop}
-use Rattle.sdc_model.specs.declared.commands.Part.TheVariants as part
 use Rattle.sdc_model.specs.declared.kinds.TclKind.{TclKind}
-use Rattle.sdc_model.specs.declared.kinds.TclKind.TheVariants.{BadWord, Unclosed}
-use Rattle.sdc_model.specs.Bytes.{before, begins_with, behind, front, is_name_byte}
-use Rattle.sdc_model.specs.Continued.{behind_continued, continues}
-use Rattle.sdc_model.specs.Enclosed.{behind_bracket}
+use Rattle.sdc_model.specs.Bytes.{before, behind, front}
 use Rattle.sdc_model.specs.Pieces as grammar
 use Rattle.sdc_model.specs.Row.{found, stops}
 use Rattle.tcl_words.specs.declared.pieces.Kind.{Kind}
-use Rattle.tcl_words.specs.declared.pieces.Kind.TheVariants.{Blank, Index, Newline, Script, Tab, Text, Variable}
-use Rattle.tcl_words.specs.declared.pieces.Piece.{Piece}
+use Rattle.tcl_words.specs.declared.pieces.Kind.TheVariants.{Text}
 use Rattle.tcl_words.specs.declared.pieces.Step.{Step}
 use Rattle.tcl_words.specs.declared.pieces.Step.TheVariants.{Ends, Found}
 use Rattle.tcl_words.specs.declared.runs.Form.{Form}
 use Rattle.tcl_words.specs.declared.runs.Form.TheVariants.{Bare, Braced, Quoted}
 use Rattle.tcl_words.specs.Forms.{form_of}
-use Rattle.tcl_words.specs.Nests.{ClosesAt, behind_of}
 use Rattle.tcl_words.specs.Spans.{Keeps, LeadsTo}
-use Rattle.tcl_words.specs.Steps.{Lies, StepAt, between, end_of, escaped_outside, of_kind, piece_of}
-use Rattle.tcl_words.proofs.GapFacts.{take_cons}
+use Rattle.tcl_words.specs.Steps.{StepAt, between, end_of, of_kind}
+use Rattle.tcl_words.proofs.BetweenFacts.{take_cons}
 use Rattle.tcl_words.proofs.RunFacts.{drop_all}
 
 -- ---- bytes between places
 
-behind_short : (test : ℕ → Bool) (xs : List ℕ) → length (behind test xs) ≤ length xs
+pub behind_short : (test : ℕ → Bool) (xs : List ℕ) → length (behind test xs) ≤ length xs
 unfolding behind
 behind_short test [] = omega arith
 behind_short test (b ∷ bs) = elim (cases_Bool (test b)) [

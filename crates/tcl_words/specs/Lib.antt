@@ -1,7 +1,11 @@
 pub mod Forms
 pub mod GatheredParts
+pub mod ItemReads
 pub mod Laws
+pub mod ListLaws
 pub mod Nests
+pub mod Operands
 pub mod Reads
 pub mod Spans
 pub mod Steps
+pub mod Taken

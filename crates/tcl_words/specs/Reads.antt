@@ -5,7 +5,7 @@ use Rattle.std.specs.Str.{IsCharBoundary}
 use Rattle.sdc_model.specs.declared.commands.Word.{Word}
 use Rattle.sdc_model.specs.declared.kinds.TclKind.{TclKind}
 use Rattle.sdc_model.specs.Bytes.{is_end, is_space}
-use Rattle.sdc_model.specs.Commands.{ArePieces, AreWords, IsWordOf, WordFront, opening}
+use Rattle.sdc_model.specs.Commands.{ArePieces, AreWords, IsWordOf, opening}
 use Rattle.sdc_model.specs.Continued.{continues}
 use Rattle.sdc_model.specs.Pieces as grammar
 use Rattle.sdc_model.specs.Row.{found, stops}

@@ -67,7 +67,7 @@ pub fn gap_end(bytes: &[u8], from: usize) -> usize
 }
 
 /// The place behind what a backslash right before a place takes out of a comment.
-#[tactic(auto, using(crate::proofs::GapFacts::taken_end_moves, crate::proofs::GapFacts::taken_pair_moves, crate::proofs::GapFacts::taken_one_moves, crate::proofs::GapFacts::second_newline))]
+#[tactic(auto, using(crate::proofs::BetweenFacts::taken_end_moves, crate::proofs::BetweenFacts::taken_pair_moves, crate::proofs::BetweenFacts::taken_one_moves, crate::proofs::GapFacts::second_newline))]
 fn taken_end(bytes: &[u8], at: usize) -> usize
     requires { at ≤ length bytes.now }
     ensures { Moves (from_command taken) (from_command comment) bytes.now at result }
@@ -82,7 +82,7 @@ fn taken_end(bytes: &[u8], at: usize) -> usize
 }
 
 /// The place behind a byte of a comment, and what it takes out where it is a backslash.
-#[tactic(auto, using(crate::proofs::GapFacts::comment_taken_moves, crate::proofs::GapFacts::comment_one_moves))]
+#[tactic(auto, using(crate::proofs::BetweenFacts::comment_taken_moves, crate::proofs::BetweenFacts::comment_one_moves))]
 fn comment_step(bytes: &[u8], at: usize) -> usize
     requires within { at < length bytes.now }
     requires inside { (slice_index bytes.now at == 10) ≡ false }
@@ -96,7 +96,7 @@ fn comment_step(bytes: &[u8], at: usize) -> usize
 }
 
 /// The place of the newline that ends a comment, or of the end of the text, from a place in the comment on.
-#[tactic(auto, using(crate::proofs::GapFacts::moves_none, crate::proofs::GapFacts::moves_more, crate::proofs::GapFacts::comment_ends, crate::proofs::GapFacts::comment_keeps))]
+#[tactic(auto, using(crate::proofs::BetweenFacts::moves_none, crate::proofs::BetweenFacts::moves_more, crate::proofs::BetweenFacts::comment_ends, crate::proofs::BetweenFacts::comment_keeps))]
 fn comment_end(bytes: &[u8], from: usize) -> usize
     requires { from ≤ length bytes.now }
     ensures moves { Moves (from_command comment) (from_command parting) bytes.now from result }
@@ -117,7 +117,7 @@ fn is_parting(byte: u8) -> bool
 }
 
 /// The place behind a part of what stands between commands at a place, or the place where a command begins there.
-#[tactic(auto, using(crate::proofs::GapFacts::parting_steps_one, crate::proofs::GapFacts::parting_steps_comment, crate::proofs::GapFacts::parting_steps_continued, crate::proofs::GapFacts::parting_steps_none))]
+#[tactic(auto, using(crate::proofs::BetweenFacts::parting_steps_one, crate::proofs::BetweenFacts::parting_steps_comment, crate::proofs::BetweenFacts::parting_steps_continued, crate::proofs::BetweenFacts::parting_steps_none))]
 fn parting_step(bytes: &[u8], at: usize) -> usize
     requires { at < length bytes.now }
     ensures { StepsTo (from_command parting) bytes.now at result }
@@ -136,7 +136,7 @@ fn parting_step(bytes: &[u8], at: usize) -> usize
 }
 
 /// The place where the first command at or behind a place begins, or the end of the text.
-#[tactic(auto, using(crate::proofs::GapFacts::reached_none, crate::proofs::GapFacts::reached_more, crate::proofs::GapFacts::reached_stays, crate::proofs::GapFacts::reached_end, crate::proofs::GapFacts::from_command_nil))]
+#[tactic(auto, using(crate::proofs::GapFacts::reached_none, crate::proofs::GapFacts::reached_more, crate::proofs::GapFacts::reached_stays, crate::proofs::GapFacts::reached_end, crate::proofs::BetweenFacts::from_command_nil))]
 pub fn command_start(bytes: &[u8], from: usize) -> usize
     requires { from ≤ length bytes.now }
     ensures { LeadsTo bytes.now from result (from_command parting (drop from bytes.now)) }
@@ -163,7 +163,7 @@ fn line_behind(byte: u8, line: u32) -> u32
 }
 
 /// The line at a place, counted from another one and its line.
-#[tactic(auto, using(crate::proofs::GapFacts::line_more))]
+#[tactic(auto, using(crate::proofs::BetweenFacts::line_more))]
 pub fn line_at(bytes: &[u8], from: usize, to: usize, first: u32) -> u32
     requires forward { from ≤ to }
     requires within { to ≤ length bytes.now }

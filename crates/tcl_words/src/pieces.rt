@@ -2,20 +2,17 @@
 
 ghost use Rattle.std.specs.Prelude.{◌≡◌, ◌<◌, ◌≤◌, ◌+◌, true, Ok, length, drop, slice_index};
 ghost use Rattle.sdc_base.specs.Gives.{Meets};
-ghost use Rattle.sdc_model.specs.Bytes.{begins_with, behind, front, is_name_byte, is_index_byte as index_byte};
 ghost use Rattle.sdc_model.specs.Continued.{continues as goes_on};
-ghost use Rattle.sdc_model.specs.Enclosed.{behind_bracket};
 ghost use Rattle.sdc_model.specs.Pieces as grammar;
 ghost use Rattle.tcl_words.specs.Forms.{form_of};
-ghost use Rattle.std.specs.List.{list_all};
 ghost use Rattle.tcl_words.specs.declared.pieces.Kind.TheVariants as kind;
 ghost use Rattle.tcl_words.specs.declared.pieces.Step.TheVariants as step;
-ghost use Rattle.tcl_words.specs.Steps.{end_of, escaped_outside, of_kind, StepAt};
+ghost use Rattle.tcl_words.specs.Steps.{end_of, escaped_outside, StepAt};
 
 use crate::between::continued_end;
-use crate::enclosed::{Open, closing};
 use crate::runs::{Form, Run, run_end};
-use crate::scan::{continues, stands_at};
+use crate::scan::continues;
+use crate::substitutions::substituted;
 use sdc_base::Stop;
 use sdc_model::TclKind;
 use std::alloc::Global;
@@ -53,7 +50,7 @@ pub enum Step {
 }
 
 /// Bytes as they are, from a place to another.
-fn itself(from: usize, to: usize) -> Step
+pub fn itself(from: usize, to: usize) -> Step
     ensures { result ≡ step.Found (record { kind = kind.Text; from = from; to = to; next = to }) }
 {
     Step::Found(Piece {
@@ -101,7 +98,7 @@ pub fn piece_at(alloc: Global, bytes: &[u8], at: usize, form: Form) -> Result<St
 
 /// The end of a word at the end of the text, where it needs no closing quote.
 #[tactic(auto, using(crate::proofs::PieceFacts::text_ends))]
-fn text_end(bytes: &[u8], at: usize, form: Form) -> Result<Step, Stop<TclKind>>
+pub fn text_end(bytes: &[u8], at: usize, form: Form) -> Result<Step, Stop<TclKind>>
     requires { at ≡ length bytes.now }
     ensures { Meets result (StepAt (grammar.at_text_end (form_of form)) bytes.now at) }
 {
@@ -113,7 +110,7 @@ fn text_end(bytes: &[u8], at: usize, form: Form) -> Result<Step, Stop<TclKind>>
 }
 
 /// The place behind a word that a byte at a place ends: a closing quote belongs to it.
-fn word_end(at: usize, form: Form) -> usize
+pub fn word_end(at: usize, form: Form) -> usize
     requires { at < 18446744073709551615 }
     ensures { result ≡ end_of form at }
 {
@@ -124,8 +121,8 @@ fn word_end(at: usize, form: Form) -> usize
 }
 
 /// What stands at the place of a backslash.
-#[tactic(auto, using(crate::proofs::PieceMore::backslash_ends, crate::proofs::PieceMore::on_continued, crate::proofs::PieceMore::on_escaped))]
-fn behind_backslash(bytes: &[u8], at: usize, form: Form) -> Step
+#[tactic(auto, using(crate::proofs::EscapeFacts::backslash_ends, crate::proofs::EscapeFacts::on_continued, crate::proofs::EscapeFacts::on_escaped))]
+pub fn behind_backslash(bytes: &[u8], at: usize, form: Form) -> Step
     requires within { at < length bytes.now }
     requires backslash { slice_index bytes.now at ≡ 92 }
     ensures { StepAt (grammar.behind_backslash (form_of form) (drop (at + 1) bytes.now)) bytes.now at (Ok result) }
@@ -140,7 +137,7 @@ fn behind_backslash(bytes: &[u8], at: usize, form: Form) -> Step
 }
 
 /// A continued line, whose backslash stands at a place: one blank, and the end of a bare word.
-#[tactic(auto, using(crate::proofs::PieceMore::continued_bare, crate::proofs::PieceMore::continued_braced, crate::proofs::PieceMore::continued_quoted))]
+#[tactic(auto, using(crate::proofs::EscapeFacts::continued_bare, crate::proofs::EscapeFacts::continued_braced, crate::proofs::EscapeFacts::continued_quoted))]
 fn continued(bytes: &[u8], at: usize, form: Form) -> Step
     requires within { at + 1 < length bytes.now }
     requires backslash { slice_index bytes.now at ≡ 92 }
@@ -169,7 +166,7 @@ fn escaped(bytes: &[u8], at: usize, form: Form) -> Step
 }
 
 /// The same outside braces.
-#[tactic(auto, using(crate::proofs::PieceMore::escaped_newline, crate::proofs::PieceMore::escaped_tab, crate::proofs::PieceMore::escaped_other))]
+#[tactic(auto, using(crate::proofs::EscapeFacts::escaped_newline, crate::proofs::EscapeFacts::escaped_tab, crate::proofs::EscapeFacts::escaped_other))]
 fn escaped_byte(bytes: &[u8], at: usize, form: Form) -> Step
     requires within { at + 1 < length bytes.now }
     requires backslash { slice_index bytes.now at ≡ 92 }
@@ -182,121 +179,4 @@ fn escaped_byte(bytes: &[u8], at: usize, form: Form) -> Step
         return one(Kind::Tab, at + 2);
     }
     itself(at + 1, run_end(bytes, at + 2, Run::Plain(form)))
-}
-
-/// What stands at the place of a `$` or a `[`.
-fn substituted(alloc: Global, bytes: &[u8], at: usize) -> Result<Step, Stop<TclKind>>
-    requires within { at < length bytes.now }
-    requires small { slice_index bytes.now at < 128 }
-    ensures { Meets result (StepAt (grammar.substituted (slice_index bytes.now at) (drop (at + 1) bytes.now)) bytes.now at) }
-{
-    if bytes[at] == b'$' {
-        return variable(bytes, at);
-    }
-    script(alloc, bytes, at)
-}
-
-/// What stands at the place of a `$`.
-#[tactic(auto, using(crate::proofs::PieceMore::dollar_plain, crate::proofs::PieceMore::dollar_element, crate::proofs::PieceMore::dollar_named))]
-fn variable(bytes: &[u8], at: usize) -> Result<Step, Stop<TclKind>>
-    requires within { at < length bytes.now }
-    requires dollar { slice_index bytes.now at ≡ 36 }
-    ensures { Meets result (StepAt (grammar.behind_dollar (front is_name_byte (drop (at + 1) bytes.now)) (behind is_name_byte (drop (at + 1) bytes.now))) bytes.now at) }
-{
-    let end = run_end(bytes, at + 1, Run::Name);
-    if end == at + 1 {
-        return plain_dollar(bytes, at);
-    }
-    if stands_at(bytes, end, b'(') {
-        return Err(Stop::Refused(TclKind::BadWord));
-    }
-    Ok(Step::Found(Piece {
-        kind: Kind::Variable,
-        from: at + 1,
-        to: end,
-        next: end,
-    }))
-}
-
-/// What stands at the place of a `$` that no name follows: `{` opens one, and else `$` is itself.
-#[tactic(auto, using(crate::proofs::PieceMore::plain_itself, crate::proofs::PieceMore::name_unclosed, crate::proofs::PieceMore::name_closed))]
-fn plain_dollar(bytes: &[u8], at: usize) -> Result<Step, Stop<TclKind>>
-    requires within { at < length bytes.now }
-    requires dollar { slice_index bytes.now at ≡ 36 }
-    ensures { Meets result (StepAt (grammar.plain_dollar (drop (at + 1) bytes.now)) bytes.now at) }
-{
-    if stands_at(bytes, at + 1, b'{') {
-        return braced_variable(bytes, at);
-    }
-    Ok(itself(at, at + 1))
-}
-
-/// The variable whose name stands in braces behind the place of a `$`.
-#[tactic(auto, using(crate::proofs::PieceMore::name_unclosed, crate::proofs::PieceMore::brace_at))]
-fn braced_variable(bytes: &[u8], at: usize) -> Result<Step, Stop<TclKind>>
-    requires within { at < length bytes.now }
-    requires opens { begins_with 123 (drop (at + 1) bytes.now) ≡ true }
-    ensures { Meets result (StepAt (grammar.plain_dollar (drop (at + 1) bytes.now)) bytes.now at) }
-{
-    let end = run_end(bytes, at + 2, Run::BeforeBrace);
-    if end == bytes.len() {
-        return Err(Stop::Refused(TclKind::Unclosed));
-    }
-    Ok(Step::Found(Piece {
-        kind: Kind::Variable,
-        from: at + 2,
-        to: end,
-        next: end + 1,
-    }))
-}
-
-/// The script at the place of a `[`; one that is an index is as it is written.
-#[tactic(auto, using(crate::proofs::PieceMore::script_unclosed, crate::proofs::PieceMore::script_closed))]
-fn script(alloc: Global, bytes: &[u8], at: usize) -> Result<Step, Stop<TclKind>>
-    requires within { at < length bytes.now }
-    requires small { slice_index bytes.now at < 128 }
-    ensures { Meets result (StepAt (grammar.behind_opening (drop (at + 1) bytes.now) (behind_bracket (drop (at + 1) bytes.now))) bytes.now at) }
-{
-    let Some(next) = closing(alloc, bytes, at + 1, Open::Bracket)? else {
-        return Err(Stop::Refused(TclKind::Unclosed));
-    };
-    let to = next - 1;
-    let kind = script_kind(&bytes[at + 1..to]);
-    Ok(Step::Found(Piece {
-        kind,
-        from: at + 1,
-        to,
-        next,
-    }))
-}
-
-/// What a script is: one that is an index is no script.
-fn script_kind(script: &[u8]) -> Kind
-    ensures { of_kind result script.now ≡ grammar.script_piece script.now }
-{
-    if is_index(script) {
-        return Kind::Index;
-    }
-    Kind::Script
-}
-
-/// Whether a script is an index: digits, `*`, `?` and `:`, at least one.
-fn is_index(script: &[u8]) -> bool
-    ensures { result ≡ grammar.is_index script.now }
-{
-    !script.is_empty() && are_index(script)
-}
-
-/// Whether all bytes are parts of an index.
-fn are_index(script: &[u8]) -> bool
-    ensures { result ≡ list_all index_byte script.now }
-{
-    script.iter().all(|byte| is_index_byte(*byte))
-}
-
-/// Whether a byte is a part of an index.
-fn is_index_byte(byte: u8) -> bool
-    ensures { result ≡ index_byte byte }
-{
-    byte.is_ascii_digit() || matches!(byte, b'*' | b'?' | b':')
 }

@@ -95,8 +95,13 @@ fn bare_at(alloc: Global, text: &str, from: usize) -> Result<Spelled, Stop<TclKi
 }
 
 /// The word of the pieces that stand from a place on.
-#[tactic(auto, using(crate::proofs::WordFacts::pieces_none, crate::proofs::WordFacts::pieces_more, crate::proofs::WordFacts::pieces_end, crate::proofs::WordFacts::pieces_break))]
-fn pieces_at(alloc: Global, text: &str, from: usize, form: Form) -> Result<Spelled, Stop<TclKind>>
+#[tactic(auto, using(crate::proofs::PieceRows::pieces_none, crate::proofs::PieceRows::pieces_more, crate::proofs::PieceRows::pieces_end, crate::proofs::PieceRows::pieces_break))]
+pub fn pieces_at(
+    alloc: Global,
+    text: &str,
+    from: usize,
+    form: Form,
+) -> Result<Spelled, Stop<TclKind>>
     requires within { from ≤ length text.now }
     requires boundary { IsCharBoundary text.now from }
     ensures { Meets result (PiecesFrom form text.now from) }

@@ -3,6 +3,7 @@
 
 mod faults;
 mod gaps;
+mod lists;
 mod words;
 
 use crate::{next_command, split};

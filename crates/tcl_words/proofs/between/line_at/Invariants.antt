@@ -1,4 +1,4 @@
-use Rattle.std.proofs.Common.{◌≡◌, ◌≤◌, drop, take, length, ◌-◌}
+use Rattle.std.proofs.Common.{◌≡◌, ◌≤◌, drop, take, ◌-◌}
 use Rattle.sdc_model.specs.Bytes.{line_after}
 use Rattle.tcl_words.proofs.between.line_at.Given as goal
 

@@ -1,6 +1,6 @@
 use Rattle.std.proofs.Common.{get_or, rules, sym, ◌∙◌}
 use Rattle.std.proofs.lemmas.Bool.{ne_eqb}
-use Rattle.tcl_words.proofs.GapFacts.{parting_steps_comment, parting_steps_continued, parting_steps_none, parting_steps_one}
+use Rattle.tcl_words.proofs.BetweenFacts.{parting_steps_comment, parting_steps_continued, parting_steps_none, parting_steps_one}
 use Rattle.tcl_words.proofs.between.parting_step.Goals as goal
 
 pub returns-then-is_parting : goal.returns-then-is_parting

@@ -1,4 +1,4 @@
-use Rattle.std.proofs.Common.{◌≡◌, ◌<◌, ◌+◌, List, ℕ, Bool, Option, Some, None, [], false, drop, get_or, length, subst, sym, arith}
+use Rattle.std.proofs.Common.{◌≡◌, ◌<◌, ◌+◌, Bool, Option, Some, [], false, drop, get_or, length, subst, sym, arith}
 use Rattle.std.proofs.lemmas.Bool.{ne_eqb}
 use Rattle.sdc_model.specs.Enclosed as grammar
 use Rattle.tcl_words.specs.declared.enclosed.Nest.{Nest}

@@ -1,7 +1,5 @@
-use Rattle.std.proofs.Common.{◌≡◌, ℕ, subst, sym, ◌∙◌}
+use Rattle.std.proofs.Common.{sym, ◌∙◌}
 use Rattle.std.proofs.lemmas.Bool.{ne_eqb}
-use Rattle.sdc_model.specs.Pieces as grammar
-use Rattle.sdc_model.specs.Row.{stops}
 use Rattle.tcl_words.proofs.PieceFacts.{at_end_is, at_none, at_substituted, at_within}
 use Rattle.tcl_words.proofs.pieces.piece_at.Goals as goal
 

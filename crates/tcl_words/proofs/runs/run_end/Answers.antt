@@ -1,4 +1,4 @@
-use Rattle.std.proofs.Common.{◌≡◌, ◌<◌, false, get_or, length, sym, ◌∙◌, arith}
+use Rattle.std.proofs.Common.{sym, ◌∙◌, arith}
 use Rattle.tcl_words.specs.Forms.{test_of}
 use Rattle.tcl_words.proofs.RunFacts.{run_cuts, run_more, run_leads}
 use Rattle.tcl_words.proofs.runs.run_end.Goals as goal

@@ -6,7 +6,7 @@ use Rattle.tcl_words.specs.declared.pieces.Step.{Step}
 use Rattle.tcl_words.specs.declared.pieces.Step.TheVariants.{Ends}
 use Rattle.tcl_words.specs.Forms.{form_of}
 use Rattle.tcl_words.specs.Steps.{StepAt}
-use Rattle.tcl_words.proofs.WordFacts.{pieces_stop, pieces_end}
+use Rattle.tcl_words.proofs.PieceRows.{pieces_stop, pieces_end}
 use Rattle.tcl_words.proofs.spelled.pieces_at.Goals as goal
 
 pub returns-in_err-end : goal.returns-in_err-end

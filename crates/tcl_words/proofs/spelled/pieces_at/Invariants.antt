@@ -1,5 +1,5 @@
 use Rattle.std.proofs.Common.{length, ◌-◌}
-use Rattle.tcl_words.proofs.WordFacts.{PiecesSoFar}
+use Rattle.tcl_words.proofs.PieceRows.{PiecesSoFar}
 use Rattle.tcl_words.proofs.spelled.pieces_at.Given as goal
 
 abbrev pub invariant-loop-gathered : goal.invariant-loop-gathered

@@ -1,0 +1,129 @@
+//! Groups of clocks of files.
+
+use super::{command_of, says};
+use crate::mode_file::read_commands;
+use sdc_base::{List, NoMemory};
+use sdc_model::Command;
+use std::alloc::Global;
+use std::process::Abort;
+use std::test::Fail;
+
+/// Four clocks, with the places 0 to 3.
+const CLOCKS: &str = "create_clock|-name|a|-period|2
+create_clock|-name|b|-period|2
+create_clock|-name|c|-period|2
+create_clock|-name|d|-period|2";
+
+/// What these clocks say.
+const SAID_CLOCKS: &str =
+    "a 2000000 0 1000000;b 2000000 0 1000000;c 2000000 0 1000000;d 2000000 0 1000000;";
+
+/// The arguments of groups behind these clocks, and the exclusive pairs that they make.
+static GROUPS: [(&str, &str); 11] = [
+    // a name, a list and a query, the lesser place first
+    ("|-group|a|-group|b", " 0-1"),
+    ("|-group|d|-group|a", " 0-3"),
+    ("|-group|{c b}|-group|{a d}", " 0-1 0-2 1-3 2-3"),
+    (
+        "|-group|[get_clocks {b}]|-group|[ get_clocks\t{ c d } ]",
+        " 1-2 1-3",
+    ),
+    ("|-group|{ b\t}|-group|[get_clocks {a}]", " 0-1"),
+    // a clock is not exclusive with itself
+    ("|-group|a|-group|a", ""),
+    ("|-group|{a b}|-group|{b a}", " 0-1"),
+    // a name twice, and no name
+    ("|-group|{a a}|-group|{c c c}", " 0-2"),
+    ("|-group|{}|-group|{a b}", ""),
+    ("|-group|[get_clocks { }]|-group|a", ""),
+    // pairs of two commands, in order and each once
+    (
+        "|-group|c|-group|d\nset_clock_groups|-asynchronous|-group|{d b}|-group|{a c}",
+        " 0-1 0-3 1-2 2-3",
+    ),
+];
+
+/// Sees that these groups behind the four clocks make these pairs exclusive.
+fn groups_make(rt: &impl Abort, alloc: Global, groups: &str, pairs: &str) -> Result<(), Fail> {
+    let text = format!(in alloc; "{CLOCKS}\nset_clock_groups|-asynchronous{groups}")?;
+    let wanted = format!(in alloc; "{SAID_CLOCKS}{pairs}")?;
+    says(rt, alloc, text.as_str(), wanted.as_str())
+}
+
+#[test]
+fn exclusive_pairs_of_groups(rt: HostRuntime) -> Result<(), Fail> {
+    for (groups, pairs) in GROUPS.iter() {
+        groups_make(&rt, rt.alloc(), groups, pairs)?;
+    }
+    Ok(())
+}
+
+/// Arguments of groups that are not read behind these clocks.
+static OTHER_GROUPS: [&str; 16] = [
+    // names that are no clocks
+    "-asynchronous|-group|a|-group|e",
+    "-asynchronous|-group|{a e}|-group|b",
+    "-asynchronous|-group|{a {b}}|-group|b",
+    // queries of another form
+    "-asynchronous|-group|a|-group|[get_clocks b]",
+    "-asynchronous|-group|a|-group|[get_clocks{b}]",
+    "-asynchronous|-group|a|-group|[get_clocks {b} c]",
+    "-asynchronous|-group|a|-group|[get_clocks {b]",
+    "-asynchronous|-group|a|-group|[get_ports {b}]",
+    "-asynchronous|-group|a|-group|[get_clocks]",
+    "-asynchronous|-group|a|-group|[]",
+    // arguments of another form
+    "-asynchronous|-group|a",
+    "-asynchronous|-group|a|-group|b|-group|c",
+    "-group|a|-group|b",
+    "-exclusive|-group|a|-group|b",
+    "-group|a|-group|b|-asynchronous",
+    "-asynchronous|-group|a|-groups|b",
+];
+
+/// Sees that these groups behind the four clocks are not read.
+fn groups_fail(rt: &impl Abort, alloc: Global, groups: &str) -> Result<(), Fail> {
+    let text = format!(in alloc; "{CLOCKS}\nset_clock_groups|{groups}")?;
+    says(rt, alloc, text.as_str(), "Sdc(OutOfProfile) 5")
+}
+
+#[test]
+fn groups_of_another_form(rt: HostRuntime) -> Result<(), Fail> {
+    for groups in OTHER_GROUPS.iter() {
+        groups_fail(&rt, rt.alloc(), groups)?;
+    }
+    Ok(())
+}
+
+#[test]
+fn names_come_before_groups(rt: HostRuntime) -> Result<(), Fail> {
+    let text = "create_clock|-name|a|-period|2
+set_clock_groups|-asynchronous|-group|a|-group|b
+create_clock|-name|b|-period|2";
+    says(&rt, rt.alloc(), text, "Sdc(OutOfProfile) 2")
+}
+
+/// Commands of 3,000 clocks, and of a group of three of them.
+fn many_commands(alloc: Global) -> Result<List<Command>, NoMemory> {
+    let mut commands = List::new(alloc);
+    for i in 0..3000_u32 {
+        let spelled = format!(in alloc; "create_clock|-name|c{i}|-period|10")?;
+        commands.push(command_of(alloc, i, spelled.as_str())?)?;
+    }
+    let spelled = "set_clock_groups|-asynchronous|-group|c2999|-group|{c7 c1}";
+    commands.push(command_of(alloc, 3000, spelled)?)?;
+    Ok(commands)
+}
+
+#[test]
+fn many_clocks(rt: HostRuntime) -> Result<(), Fail> {
+    let commands = many_commands(rt.alloc())?;
+    let read = read_commands(rt.alloc(), commands.as_slice());
+    assert!(rt; read.is_ok(), "3,000 clocks are read");
+    if let Ok(made) = read {
+        let mode = made.into_mode(rt.alloc())?;
+        assert_eq!(rt; mode.clocks.len(), 3000);
+        assert_eq!(rt; mode.exclusive.len(), 2);
+    }
+    Ok(())
+}

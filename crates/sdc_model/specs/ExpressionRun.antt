@@ -1,0 +1,71 @@
+-- What an expression gives where it is run (Tcl): its value or its first fault, from the left, and the state that is
+-- left. The right side of `&&` and `||` is run only where the left one does not decide. The form is checked before
+-- anything is run, then the levels: at most 100 of brackets, bodies and parentheses, this project's own.
+-- What a word stands for comes from a run: `Reads level word before read after` says that, at a level, the word has
+-- this text or this fault, and what its scripts do to the state.
+use Rattle.std.specs.Prelude.{◌≡◌, ◌<◌, ◌≤◌, ◌⊎◌, ◌+◌, ℕ, suc, List, Option, Some, None, Result, Ok, Err}
+use Rattle.sdc_model.specs.declared.commands.Word.{Word}
+use Rattle.sdc_model.specs.declared.expressions.BinaryOperator.{BinaryOperator}
+use Rattle.sdc_model.specs.declared.expressions.Scalar.{Scalar}
+use Rattle.sdc_model.specs.declared.expressions.Scalar.TheVariants as scalar
+use Rattle.sdc_model.specs.declared.kinds.Kind.{Kind}
+use Rattle.sdc_model.specs.declared.kinds.Kind.TheVariants.{Tcl}
+use Rattle.sdc_model.specs.declared.kinds.TclKind.{TclKind}
+use Rattle.sdc_model.specs.declared.kinds.TclKind.TheVariants.{BadExpr, TooDeep}
+use Rattle.sdc_model.specs.ExpressionForm.{IsExpression, Tree, binary, levels_of, number, parentheses, unary, word}
+use Rattle.sdc_model.specs.ExpressionValue.{changed, computed, decided, joined}
+
+-- the state before, a value or a fault, and the state after
+abbrev pub Turn : Type 0 → Type 0 → Type 1
+Turn State A = State → Result A Kind → State → Type 0
+
+-- the most levels that are open at one place
+abbrev pub most_levels : ℕ
+most_levels = 100
+
+-- an outcome of operators, and of a word, as an outcome of the run
+abbrev pub raised : Result Scalar TclKind → Result Scalar Kind
+raised (Ok v) = Ok v
+raised (Err fault) = Err (Tcl fault)
+
+abbrev pub as_scalar : Result (List ℕ) Kind → Result Scalar Kind
+as_scalar (Ok text) = Ok (scalar.Text text)
+as_scalar (Err fault) = Err fault
+
+-- an operation on a value, where there is one
+abbrev pub then_on : Result Scalar Kind → (Scalar → Result Scalar TclKind) → Result Scalar Kind
+then_on (Ok v) operation = raised (operation v)
+then_on (Err fault) operation = Err fault
+
+-- how an operator goes on behind its left side, given what this decides: its right side is run and joined to it
+abbrev pub RunsRight : {State : Type 0} → Turn State Scalar → BinaryOperator → Scalar → Option (Result Scalar TclKind) → Turn State Scalar
+RunsRight Right op left (Some outcome) between given after = (given ≡ raised outcome) × (after ≡ between)
+RunsRight Right op left None between given after =
+    (right : Result Scalar Kind) × Right between right after × (given ≡ then_on right (joined op left))
+
+abbrev pub GoesOn : {State : Type 0} → Turn State Scalar → BinaryOperator → Result Scalar Kind → Turn State Scalar
+GoesOn Right op (Ok left) between given after = RunsRight Right op left (decided op left) between given after
+GoesOn Right op (Err fault) between given after = (given ≡ Err fault) × (after ≡ between)
+
+-- what a tree gives at a level
+abbrev pub Evaluates : {State : Type 0} → (ℕ → Word → Turn State (List ℕ)) → ℕ → Tree → Turn State Scalar
+Evaluates Reads level (number n) before given after = (given ≡ raised (computed n)) × (after ≡ before)
+Evaluates Reads level (word w) before given after = (read : Result (List ℕ) Kind) × Reads level w before read after × (given ≡ as_scalar read)
+Evaluates Reads level (parentheses t) before given after = Evaluates Reads (suc level) t before given after
+Evaluates Reads level (unary op t) before given after =
+    (operand : Result Scalar Kind) × Evaluates Reads level t before operand after × (given ≡ then_on operand (changed op))
+Evaluates {State = S} Reads level (binary op left right) before given after =
+    (first : Result Scalar Kind) × (between : S) × Evaluates Reads level left before first between
+    × GoesOn (Evaluates Reads level right) op first between given after
+
+-- a tree is run where its levels are not too many
+abbrev pub RunsTree : {State : Type 0} → (ℕ → Word → Turn State (List ℕ)) → ℕ → Tree → Turn State Scalar
+RunsTree Reads level tree before given after =
+    ((level + levels_of tree ≤ most_levels) × Evaluates Reads level tree before given after)
+    ⊎ ((most_levels < level + levels_of tree) × (given ≡ Err (Tcl TooDeep)) × (after ≡ before))
+
+-- what a text gives as an expression at a level
+abbrev pub RunsExpression : {State : Type 0} → (ℕ → Word → Turn State (List ℕ)) → ℕ → List ℕ → Turn State Scalar
+RunsExpression Reads level text before given after =
+    ((tree : Tree) × IsExpression text tree × RunsTree Reads level tree before given after)
+    ⊎ (((tree : Tree) → IsExpression text tree → ⊥) × (given ≡ Err (Tcl BadExpr)) × (after ≡ before))

@@ -1,0 +1,5 @@
+use Rattle.std.proofs.lemmas.Str.{IsCharBoundary-start}
+use Rattle.tcl_words.proofs.lists.inner_pieces.Goals as goal
+
+pub pieces_at-requires-clause-boundary : goal.pieces_at-requires-clause-boundary
+pieces_at-requires-clause-boundary c = IsCharBoundary-start c.args.inner.now c.utf8.inner

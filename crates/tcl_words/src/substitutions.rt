@@ -1,0 +1,134 @@
+//! The substitutions that a word is made of: variables and scripts.
+
+ghost use Rattle.std.specs.Prelude.{◌≡◌, ◌<◌, ◌+◌, true, length, drop, slice_index};
+ghost use Rattle.std.specs.List.{list_all};
+ghost use Rattle.sdc_base.specs.Gives.{Meets};
+ghost use Rattle.sdc_model.specs.Bytes.{begins_with, behind, front, is_name_byte, is_index_byte as index_byte};
+ghost use Rattle.sdc_model.specs.Enclosed.{behind_bracket};
+ghost use Rattle.sdc_model.specs.Pieces as grammar;
+ghost use Rattle.tcl_words.specs.Steps.{of_kind, StepAt};
+
+use crate::enclosed::{Open, closing};
+use crate::pieces::{Kind, Piece, Step, itself};
+use crate::runs::{Run, run_end};
+use crate::scan::stands_at;
+use sdc_base::Stop;
+use sdc_model::TclKind;
+use std::alloc::Global;
+
+/// What stands at the place of a `$` or a `[`.
+pub fn substituted(alloc: Global, bytes: &[u8], at: usize) -> Result<Step, Stop<TclKind>>
+    requires within { at < length bytes.now }
+    requires small { slice_index bytes.now at < 128 }
+    ensures { Meets result (StepAt (grammar.substituted (slice_index bytes.now at) (drop (at + 1) bytes.now)) bytes.now at) }
+{
+    if bytes[at] == b'$' {
+        return variable(bytes, at);
+    }
+    script(alloc, bytes, at)
+}
+
+/// What stands at the place of a `$`.
+#[tactic(auto, using(crate::proofs::SubstitutionFacts::dollar_plain, crate::proofs::SubstitutionFacts::dollar_element, crate::proofs::SubstitutionFacts::dollar_named))]
+fn variable(bytes: &[u8], at: usize) -> Result<Step, Stop<TclKind>>
+    requires within { at < length bytes.now }
+    requires dollar { slice_index bytes.now at ≡ 36 }
+    ensures { Meets result (StepAt (grammar.behind_dollar (front is_name_byte (drop (at + 1) bytes.now)) (behind is_name_byte (drop (at + 1) bytes.now))) bytes.now at) }
+{
+    let end = run_end(bytes, at + 1, Run::Name);
+    if end == at + 1 {
+        return plain_dollar(bytes, at);
+    }
+    if stands_at(bytes, end, b'(') {
+        return Err(Stop::Refused(TclKind::BadWord));
+    }
+    Ok(Step::Found(Piece {
+        kind: Kind::Variable,
+        from: at + 1,
+        to: end,
+        next: end,
+    }))
+}
+
+/// What stands at the place of a `$` that no name follows: `{` opens one, and else `$` is itself.
+#[tactic(auto, using(crate::proofs::SubstitutionFacts::plain_itself, crate::proofs::SubstitutionFacts::name_unclosed, crate::proofs::SubstitutionFacts::name_closed))]
+fn plain_dollar(bytes: &[u8], at: usize) -> Result<Step, Stop<TclKind>>
+    requires within { at < length bytes.now }
+    requires dollar { slice_index bytes.now at ≡ 36 }
+    ensures { Meets result (StepAt (grammar.plain_dollar (drop (at + 1) bytes.now)) bytes.now at) }
+{
+    if stands_at(bytes, at + 1, b'{') {
+        return braced_variable(bytes, at);
+    }
+    Ok(itself(at, at + 1))
+}
+
+/// The variable whose name stands in braces behind the place of a `$`.
+#[tactic(auto, using(crate::proofs::SubstitutionFacts::name_unclosed, crate::proofs::SubstitutionFacts::brace_at))]
+fn braced_variable(bytes: &[u8], at: usize) -> Result<Step, Stop<TclKind>>
+    requires within { at < length bytes.now }
+    requires opens { begins_with 123 (drop (at + 1) bytes.now) ≡ true }
+    ensures { Meets result (StepAt (grammar.plain_dollar (drop (at + 1) bytes.now)) bytes.now at) }
+{
+    let end = run_end(bytes, at + 2, Run::BeforeBrace);
+    if end == bytes.len() {
+        return Err(Stop::Refused(TclKind::Unclosed));
+    }
+    Ok(Step::Found(Piece {
+        kind: Kind::Variable,
+        from: at + 2,
+        to: end,
+        next: end + 1,
+    }))
+}
+
+/// The script at the place of a `[`; one that is an index is as it is written.
+#[tactic(auto, using(crate::proofs::SubstitutionFacts::script_unclosed, crate::proofs::SubstitutionFacts::script_closed))]
+fn script(alloc: Global, bytes: &[u8], at: usize) -> Result<Step, Stop<TclKind>>
+    requires within { at < length bytes.now }
+    requires small { slice_index bytes.now at < 128 }
+    ensures { Meets result (StepAt (grammar.behind_opening (drop (at + 1) bytes.now) (behind_bracket (drop (at + 1) bytes.now))) bytes.now at) }
+{
+    let Some(next) = closing(alloc, bytes, at + 1, Open::Bracket)? else {
+        return Err(Stop::Refused(TclKind::Unclosed));
+    };
+    let to = next - 1;
+    let kind = script_kind(&bytes[at + 1..to]);
+    Ok(Step::Found(Piece {
+        kind,
+        from: at + 1,
+        to,
+        next,
+    }))
+}
+
+/// What a script is: one that is an index is no script.
+fn script_kind(script: &[u8]) -> Kind
+    ensures { of_kind result script.now ≡ grammar.script_piece script.now }
+{
+    if is_index(script) {
+        return Kind::Index;
+    }
+    Kind::Script
+}
+
+/// Whether a script is an index: digits, `*`, `?` and `:`, at least one.
+fn is_index(script: &[u8]) -> bool
+    ensures { result ≡ grammar.is_index script.now }
+{
+    !script.is_empty() && are_index(script)
+}
+
+/// Whether all bytes are parts of an index.
+fn are_index(script: &[u8]) -> bool
+    ensures { result ≡ list_all index_byte script.now }
+{
+    script.iter().all(|byte| is_index_byte(*byte))
+}
+
+/// Whether a byte is a part of an index.
+fn is_index_byte(byte: u8) -> bool
+    ensures { result ≡ index_byte byte }
+{
+    byte.is_ascii_digit() || matches!(byte, b'*' | b'?' | b':')
+}
