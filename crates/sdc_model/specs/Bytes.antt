@@ -1,6 +1,7 @@
 -- Kinds of bytes that the grammars here tell apart, and lines of a text. Tcl's.
 -- A byte is a number; each test says true of the bytes that it is named for.
 use Rattle.std.specs.Prelude.{◌+◌, ◌-◌, ◌^◌, ◌==◌, ◌||◌, ◌&&◌, ℕ, Bool, false, List, [], ◌∷◌, length, min, nat_le, take, if◌then◌else◌}
+use Rattle.std.specs.List.{list_all}
 
 -- `A` to `Z` and `a` to `z`
 abbrev pub is_letter : ℕ → Bool
@@ -33,6 +34,11 @@ leads_word b = b == 91 || is_space b || is_end b
 -- a byte that is a part of an index: a digit, `*`, `?` or `:`
 abbrev pub is_index_byte : ℕ → Bool
 is_index_byte b = is_digit b || b == 42 || b == 63 || b == 58
+
+-- a text that is an index: of such bytes alone, one at least
+abbrev pub is_index : List ℕ → Bool
+is_index [] = false
+is_index (b ∷ bs) = list_all is_index_byte (b ∷ bs)
 
 -- the text begins with the byte
 abbrev pub begins_with : ℕ → List ℕ → Bool

@@ -9,7 +9,7 @@ use Rattle.sdc_model.specs.declared.clocks.Pair.{Pair}
 use Rattle.sdc_model.specs.declared.commands.Part.{Part}
 use Rattle.sdc_model.specs.declared.commands.Part.TheVariants as part
 use Rattle.sdc_model.specs.Bytes.{is_blank}
-use Rattle.sdc_model.specs.Items.{items}
+use Rattle.sdc_model.specs.ListReading.{items_of}
 use Rattle.sdc_model.specs.Words.{same_text}
 
 -- the two groups of a command
@@ -33,41 +33,43 @@ abbrev pub behind_blanks : List ℕ → List ℕ
 behind_blanks [] = []
 behind_blanks (b ∷ bs) = if is_blank b then behind_blanks bs else b ∷ bs
 
--- nothing, where nothing is left
-abbrev pub at_end : List ℕ → Option (List ℕ)
-at_end [] = Some []
-at_end (b ∷ bs) = None
+-- a text that begins with a brace
+abbrev pub from_brace : List ℕ → Option (List ℕ)
+from_brace [] = None
+from_brace (b ∷ bs) = if b == 123 then Some (b ∷ bs) else None
 
--- the text before a closing brace behind which only blanks stand
-abbrev pub before_brace : List ℕ → Option (List ℕ)
-before_brace [] = None
-before_brace (b ∷ bs) =
-    if b == 125 then at_end (behind_blanks bs) else option_and_then (λ inner. Some (b ∷ inner)) (before_brace bs)
-
--- the text in a pair of braces, behind blanks and with only blanks behind it
-abbrev pub braced_text : List ℕ → Option (List ℕ)
-braced_text [] = None
-braced_text (b ∷ bs) = if b == 123 then before_brace bs else None
-
--- the braced list of a query `get_clocks {..}`
+-- the text of a query `get_clocks {..}` from its brace on
 abbrev pub behind_query : List ℕ → Option (List ℕ)
 behind_query [] = None
-behind_query (b ∷ bs) = if is_blank b then braced_text (behind_blanks bs) else None
+behind_query (b ∷ bs) = if is_blank b then from_brace (behind_blanks bs) else None
 
-abbrev pub query_list : List ℕ → Option (List ℕ)
-query_list script =
+abbrev pub query_braces : List ℕ → Option (List ℕ)
+query_braces script =
     let text = behind_blanks script in
     if starts_with nat_eq text (codes "get_clocks") then behind_query (drop 10 text) else None
 
--- the text of the names of a group: a name or a braced list of names, or a query of a braced list
+-- the item of a list of one
+abbrev pub only_item : List (List ℕ) → Option (List ℕ)
+only_item (item ∷ []) = Some item
+only_item _ = None
+
+-- the text in the braces of a query with nothing behind them: as a list (Tcl) they are one item
+abbrev pub query_list : List ℕ → Option (List ℕ)
+query_list script = option_and_then (λ text. option_and_then only_item (items_of text)) (query_braces script)
+
+-- the text of the names of a group: a list of names, or a query of such a list in braces
 abbrev pub names_text : List Part → Option (List ℕ)
 names_text (part.Text text ∷ []) = Some text
 names_text (part.Script script ∷ []) = query_list script
 names_text _ = None
 
+-- the places of the clocks of a list of names (Tcl)
+abbrev pub places_in : List Clock → List ℕ → Option (List ℕ)
+places_in clocks text = option_and_then (places_of clocks) (items_of text)
+
 -- the places of the clocks of a group
 abbrev pub group_of : List Clock → List Part → Option (List ℕ)
-group_of clocks parts = option_and_then (λ text. places_of clocks (items text)) (names_text parts)
+group_of clocks parts = option_and_then (places_in clocks) (names_text parts)
 
 -- a place is one of these
 abbrev pub is_among : ℕ → List ℕ → Bool

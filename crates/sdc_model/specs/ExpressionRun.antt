@@ -1,9 +1,9 @@
 -- What an expression gives where it is run (Tcl): its value or its first fault, from the left, and the state that is
 -- left. The right side of `&&` and `||` is run only where the left one does not decide. The form is checked before
 -- anything is run, then the levels: at most 100 of brackets, bodies and parentheses, this project's own.
--- What a word stands for comes from a run: `Reads level word before read after` says that, at a level, the word has
--- this text or this fault, and what its scripts do to the state.
-use Rattle.std.specs.Prelude.{◌≡◌, ◌<◌, ◌≤◌, ◌⊎◌, ◌+◌, ℕ, suc, List, Option, Some, None, Result, Ok, Err}
+-- What a word stands for comes from a run: `Reads level word before read after` says that, inside so many parentheses
+-- of the expression, the word has this text or this fault, and what its scripts do to the state.
+use Rattle.std.specs.Prelude.{◌≡◌, ◌<◌, ◌≤◌, ◌⊎◌, ℕ, suc, List, Option, Some, None, Result, Ok, Err}
 use Rattle.sdc_model.specs.declared.commands.Word.{Word}
 use Rattle.sdc_model.specs.declared.expressions.BinaryOperator.{BinaryOperator}
 use Rattle.sdc_model.specs.declared.expressions.Scalar.{Scalar}
@@ -18,10 +18,6 @@ use Rattle.sdc_model.specs.ExpressionValue.{changed, computed, decided, joined}
 -- the state before, a value or a fault, and the state after
 abbrev pub Turn : Type 0 → Type 0 → Type 1
 Turn State A = State → Result A Kind → State → Type 0
-
--- the most levels that are open at one place
-abbrev pub most_levels : ℕ
-most_levels = 100
 
 -- an outcome of operators, and of a word, as an outcome of the run
 abbrev pub raised : Result Scalar TclKind → Result Scalar Kind
@@ -47,7 +43,7 @@ abbrev pub GoesOn : {State : Type 0} → Turn State Scalar → BinaryOperator �
 GoesOn Right op (Ok left) between given after = RunsRight Right op left (decided op left) between given after
 GoesOn Right op (Err fault) between given after = (given ≡ Err fault) × (after ≡ between)
 
--- what a tree gives at a level
+-- what a tree gives inside so many parentheses
 abbrev pub Evaluates : {State : Type 0} → (ℕ → Word → Turn State (List ℕ)) → ℕ → Tree → Turn State Scalar
 Evaluates Reads level (number n) before given after = (given ≡ raised (computed n)) × (after ≡ before)
 Evaluates Reads level (word w) before given after = (read : Result (List ℕ) Kind) × Reads level w before read after × (given ≡ as_scalar read)
@@ -58,14 +54,14 @@ Evaluates {State = S} Reads level (binary op left right) before given after =
     (first : Result Scalar Kind) × (between : S) × Evaluates Reads level left before first between
     × GoesOn (Evaluates Reads level right) op first between given after
 
--- a tree is run where its levels are not too many
+-- a tree is run where its levels are not more than those that are left to be opened
 abbrev pub RunsTree : {State : Type 0} → (ℕ → Word → Turn State (List ℕ)) → ℕ → Tree → Turn State Scalar
-RunsTree Reads level tree before given after =
-    ((level + levels_of tree ≤ most_levels) × Evaluates Reads level tree before given after)
-    ⊎ ((most_levels < level + levels_of tree) × (given ≡ Err (Tcl TooDeep)) × (after ≡ before))
+RunsTree Reads left tree before given after =
+    ((levels_of tree ≤ left) × Evaluates Reads 0 tree before given after)
+    ⊎ ((left < levels_of tree) × (given ≡ Err (Tcl TooDeep)) × (after ≡ before))
 
--- what a text gives as an expression at a level
+-- what a text gives as an expression, where so many levels are left to be opened
 abbrev pub RunsExpression : {State : Type 0} → (ℕ → Word → Turn State (List ℕ)) → ℕ → List ℕ → Turn State Scalar
-RunsExpression Reads level text before given after =
-    ((tree : Tree) × IsExpression text tree × RunsTree Reads level tree before given after)
+RunsExpression Reads left text before given after =
+    ((tree : Tree) × IsExpression text tree × RunsTree Reads left tree before given after)
     ⊎ (((tree : Tree) → IsExpression text tree → ⊥) × (given ≡ Err (Tcl BadExpr)) × (after ≡ before))

@@ -2,12 +2,11 @@
 -- and scripts, and where a word of a form ends. It reads: at the front of a text stands a piece with the text
 -- behind it, or the end of the word, or a fault.
 use Rattle.std.specs.Prelude.{◌==◌, ◌||◌, ◌++◌, ℕ, Bool, false, not, List, [], ◌∷◌, Option, Some, None, Result, Ok, Err, if◌then◌else◌}
-use Rattle.std.specs.List.{list_all}
 use Rattle.sdc_model.specs.declared.commands.Part.{Part}
 use Rattle.sdc_model.specs.declared.commands.Part.TheVariants.{Script, Variable}
 use Rattle.sdc_model.specs.declared.kinds.TclKind.{TclKind}
 use Rattle.sdc_model.specs.declared.kinds.TclKind.TheVariants.{BadWord, Unclosed}
-use Rattle.sdc_model.specs.Bytes.{before, begins_with, behind, front, is_end, is_index_byte, is_name_byte, is_space}
+use Rattle.sdc_model.specs.Bytes.{before, begins_with, behind, front, is_end, is_name_byte, is_space}
 use Rattle.sdc_model.specs.Continued.{behind_continued, continues}
 use Rattle.sdc_model.specs.Enclosed.{behind_bracket}
 use Rattle.sdc_model.specs.Row.{Front, found, stops}
@@ -81,18 +80,10 @@ abbrev pub behind_dollar : List ℕ → List ℕ → PieceFront
 behind_dollar [] rest = plain_dollar rest
 behind_dollar (b ∷ bs) rest = if begins_with 40 rest then stops (Err BadWord) else found (other (Variable (b ∷ bs))) rest
 
--- a script; one that is an index stays as it is written
-abbrev pub is_index : List ℕ → Bool
-is_index [] = false
-is_index (b ∷ bs) = list_all is_index_byte (b ∷ bs)
-
-abbrev pub script_piece : List ℕ → Piece
-script_piece script = if is_index script then text (91 ∷ (script ++ 93 ∷ [])) else other (Script script)
-
 -- behind `[`, and the text behind the bracket
 abbrev pub behind_opening : List ℕ → Option (List ℕ) → PieceFront
 behind_opening inside None = stops (Err Unclosed)
-behind_opening inside (Some rest) = found (script_piece (before inside (93 ∷ rest))) rest
+behind_opening inside (Some rest) = found (other (Script (before inside (93 ∷ rest)))) rest
 
 -- behind `$` or `[`
 abbrev pub substituted : ℕ → List ℕ → PieceFront

@@ -6,7 +6,7 @@ use Rattle.sdc_base.specs.Number.{Number, read_number}
 use Rattle.sdc_base.specs.Time.{time_of}
 use Rattle.sdc_base.specs.declared.fixed.NumberError.{NumberError}
 use Rattle.sdc_model.specs.declared.clocks.Wave.{Wave}
-use Rattle.sdc_model.specs.Items.{items}
+use Rattle.sdc_model.specs.ListReading.{items_of}
 
 -- the longest time of a clock, 10^12 fs
 abbrev pub longest_time : ℕ
@@ -53,5 +53,6 @@ wave_of period (rise ∷ fall ∷ []) =
     option_and_then (λ rise_time. option_and_then (wave_within period rise_time) (time_from 0 fall)) (time_from 0 rise)
 wave_of period _ = None
 
+-- the waveform of a text that is such a list (Tcl)
 abbrev pub waveform_of : ℕ → List ℕ → Option Wave
-waveform_of period text = wave_of period (items text)
+waveform_of period text = option_and_then (wave_of period) (items_of text)

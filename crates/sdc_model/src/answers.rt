@@ -7,7 +7,7 @@ use crate::kinds::Fault;
 use sdc_base::NoMemory;
 
 /// The answer of a run. Its exit number is the tool's exit status.
-#[derive(Clone, Copy, Debug, PartialEq, Eq, PartialOrd, Ord)]
+#[derive(Clone, Copy, Debug, PartialEq, Eq)]
 pub enum Status {
     /// The work is done.
     Done,

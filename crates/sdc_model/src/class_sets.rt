@@ -1,6 +1,7 @@
 //! Classes of paths: what all paths through a design have in common that limits look at. This project's own.
 
 use crate::constraints::Exception;
+use crate::copies::both;
 use crate::graphs::Graph;
 use crate::pins::{ClockEdge, Node};
 use sdc_base::{Bits, Duplicate, List, NoMemory};
@@ -47,14 +48,11 @@ pub struct Class {
 
 impl Duplicate for Class {
     fn copy(&self, alloc: Global) -> Result<Class, NoMemory> {
-        let launch = self.launch.copy(alloc)?;
-        let start = self.start.copy(alloc)?;
-        let modes = self.modes.copy(alloc)?;
         let progress = self.progress.copy(alloc)?;
         Ok(Class {
-            launch,
-            start,
-            modes,
+            launch: self.launch,
+            start: self.start,
+            modes: self.modes,
             progress,
         })
     }
@@ -89,12 +87,9 @@ pub struct Pool {
 
 impl Duplicate for Pool {
     fn copy(&self, alloc: Global) -> Result<Pool, NoMemory> {
-        let graph = self.graph.copy(alloc)?;
-        let order = self.order.copy(alloc)?;
-        let alive = self.alive.copy(alloc)?;
-        let modes = self.modes.copy(alloc)?;
-        let starts = self.starts.copy(alloc)?;
-        let exceptions = self.exceptions.copy(alloc)?;
+        let (graph, order) = both(alloc, &self.graph, &self.order)?;
+        let (alive, modes) = both(alloc, &self.alive, &self.modes)?;
+        let (starts, exceptions) = both(alloc, &self.starts, &self.exceptions)?;
         Ok(Pool {
             graph,
             order,

@@ -83,7 +83,7 @@ impl Duplicate for Latency {
 }
 
 /// A clock of a mode. A clock without sources is virtual.
-#[derive(Debug, Drop, PartialEq, Eq, PartialOrd, Ord)]
+#[derive(Debug, Drop, PartialEq, Eq)]
 pub struct Clock {
     /// The line of the command that made it.
     pub line: u32,
@@ -98,23 +98,17 @@ pub struct Clock {
 
 impl Duplicate for Clock {
     fn copy(&self, alloc: Global) -> Result<Clock, NoMemory> {
-        let line = self.line.copy(alloc)?;
         let name = self.name.copy(alloc)?;
         let sources = self.sources.copy(alloc)?;
-        let form = self.form.copy(alloc)?;
-        let latency = self.latency.copy(alloc)?;
-        let setup_uncertainty = self.setup_uncertainty.copy(alloc)?;
-        let hold_uncertainty = self.hold_uncertainty.copy(alloc)?;
-        let propagated = self.propagated.copy(alloc)?;
         Ok(Clock {
-            line,
+            line: self.line,
             name,
             sources,
-            form,
-            latency,
-            setup_uncertainty,
-            hold_uncertainty,
-            propagated,
+            form: self.form,
+            latency: self.latency,
+            setup_uncertainty: self.setup_uncertainty,
+            hold_uncertainty: self.hold_uncertainty,
+            propagated: self.propagated,
         })
     }
 }

@@ -3,7 +3,7 @@
 use sdc_base::{List, Text};
 
 /// What a command line asks for.
-#[derive(Debug, Drop, PartialEq, Eq, PartialOrd, Ord)]
+#[derive(Debug, Drop, PartialEq, Eq)]
 pub enum CommandLine {
     /// The relations of the clock edges of each of these files.
     Edges(List<Text>),
@@ -12,7 +12,7 @@ pub enum CommandLine {
 }
 
 /// What a run writes: the bytes of the merged file, where one is made, and of the report.
-#[derive(Debug, Drop, PartialEq, Eq, PartialOrd, Ord)]
+#[derive(Debug, Drop, PartialEq, Eq)]
 pub struct Output {
     pub merged: List<u8>,
     pub report: List<u8>,

@@ -4,7 +4,7 @@ use sdc_base::{Duplicate, List, NoMemory, Text};
 use std::alloc::Global;
 
 /// A part of a word.
-#[derive(Debug, Drop, PartialEq, Eq, PartialOrd, Ord)]
+#[derive(Debug, Drop, PartialEq, Eq)]
 pub enum Part {
     /// Bytes that stand for themselves.
     Text(Text),
@@ -34,7 +34,7 @@ impl Duplicate for Part {
 }
 
 /// A word: its parts, one behind the other.
-#[derive(Debug, Drop, PartialEq, Eq, PartialOrd, Ord)]
+#[derive(Debug, Drop, PartialEq, Eq)]
 pub struct Word {
     pub parts: List<Part>,
 }
@@ -47,7 +47,7 @@ impl Duplicate for Word {
 }
 
 /// A command: its words, the name first, and the line of its first word.
-#[derive(Debug, Drop, PartialEq, Eq, PartialOrd, Ord)]
+#[derive(Debug, Drop, PartialEq, Eq)]
 pub struct Command {
     pub line: u32,
     pub words: List<Word>,
@@ -55,14 +55,16 @@ pub struct Command {
 
 impl Duplicate for Command {
     fn copy(&self, alloc: Global) -> Result<Command, NoMemory> {
-        let line = self.line.copy(alloc)?;
         let words = self.words.copy(alloc)?;
-        Ok(Command { line, words })
+        Ok(Command {
+            line: self.line,
+            words,
+        })
     }
 }
 
 /// A command, where its text ends in bytes, and the line there.
-#[derive(Debug, Drop, PartialEq, Eq, PartialOrd, Ord)]
+#[derive(Debug, Drop, PartialEq, Eq)]
 pub struct Next {
     pub command: Command,
     pub end: usize,
@@ -72,8 +74,10 @@ pub struct Next {
 impl Duplicate for Next {
     fn copy(&self, alloc: Global) -> Result<Next, NoMemory> {
         let command = self.command.copy(alloc)?;
-        let end = self.end.copy(alloc)?;
-        let line = self.line.copy(alloc)?;
-        Ok(Next { command, end, line })
+        Ok(Next {
+            command,
+            end: self.end,
+            line: self.line,
+        })
     }
 }

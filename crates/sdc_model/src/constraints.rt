@@ -1,11 +1,12 @@
 //! What a mode says of pins, ports and paths (SDC 2.1), all times in whole femtoseconds.
 
+use crate::copies::both;
 use crate::pins::{ClockEdge, Edge, Pin, Side};
 use sdc_base::{Duplicate, List, NoMemory};
 use std::alloc::Global;
 
 /// A pin that is set to a value (`set_case_analysis`).
-#[derive(Clone, Copy, Debug, PartialEq, Eq, PartialOrd, Ord)]
+#[derive(Clone, Copy, Debug, PartialEq, Eq)]
 pub struct CaseSet {
     pub line: u32,
     pub pin: Pin,
@@ -19,7 +20,7 @@ impl Duplicate for CaseSet {
 }
 
 /// A pin, or a pair of pins of one cell, whose arcs are disabled (`set_disable_timing`).
-#[derive(Clone, Copy, Debug, PartialEq, Eq, PartialOrd, Ord)]
+#[derive(Clone, Copy, Debug, PartialEq, Eq)]
 pub enum Disable {
     Pin { line: u32, pin: Pin },
     Between { line: u32, from: Pin, to: Pin },
@@ -32,7 +33,7 @@ impl Duplicate for Disable {
 }
 
 /// The delays outside a port to one clock edge, each where it is set (`set_input_delay`, `set_output_delay`).
-#[derive(Clone, Copy, Debug, PartialEq, Eq, PartialOrd, Ord)]
+#[derive(Clone, Copy, Debug, PartialEq, Eq)]
 pub struct IoDelay {
     pub port: Pin,
     pub clock: ClockEdge,
@@ -95,9 +96,11 @@ pub struct Through {
 
 impl Duplicate for Through {
     fn copy(&self, alloc: Global) -> Result<Through, NoMemory> {
-        let edge = self.edge.copy(alloc)?;
         let pins = self.pins.copy(alloc)?;
-        Ok(Through { edge, pins })
+        Ok(Through {
+            edge: self.edge,
+            pins,
+        })
     }
 }
 
@@ -121,22 +124,15 @@ pub struct Exception {
 
 impl Duplicate for Exception {
     fn copy(&self, alloc: Global) -> Result<Exception, NoMemory> {
-        let line = self.line.copy(alloc)?;
-        let command = self.command.copy(alloc)?;
-        let side = self.side.copy(alloc)?;
-        let value = self.value.copy(alloc)?;
-        let by_launch = self.by_launch.copy(alloc)?;
-        let last = self.last.copy(alloc)?;
-        let from = self.from.copy(alloc)?;
         let through = self.through.copy(alloc)?;
-        let to = self.to.copy(alloc)?;
+        let (from, to) = both(alloc, &self.from, &self.to)?;
         Ok(Exception {
-            line,
-            command,
-            side,
-            value,
-            by_launch,
-            last,
+            line: self.line,
+            command: self.command,
+            side: self.side,
+            value: self.value,
+            by_launch: self.by_launch,
+            last: self.last,
             from,
             through,
             to,

@@ -1,12 +1,13 @@
 //! A design: what a flattened netlist says of its pins, cells and nets, by their places. This project's own numbering.
 
+use crate::copies::both;
 use crate::library_cells::LibCell;
 use crate::pins::Pin;
 use sdc_base::{Duplicate, List, NoMemory, Text};
 use std::alloc::Global;
 
 /// What a pin of a design is: a port bit of the top module, or a pin of a cell, by its direction.
-#[derive(Clone, Copy, Debug, PartialEq, Eq, PartialOrd, Ord)]
+#[derive(Clone, Copy, Debug, PartialEq, Eq)]
 pub enum Role {
     InPort,
     OutPort,
@@ -22,7 +23,7 @@ impl Duplicate for Role {
 }
 
 /// What drives a pin or a net: nothing, a constant, or a pin.
-#[derive(Clone, Copy, Debug, PartialEq, Eq, PartialOrd, Ord)]
+#[derive(Clone, Copy, Debug, PartialEq, Eq)]
 pub enum Source {
     Nothing,
     Zero,
@@ -37,7 +38,7 @@ impl Duplicate for Source {
 }
 
 /// A pin of a design.
-#[derive(Debug, Drop, PartialEq, Eq, PartialOrd, Ord)]
+#[derive(Debug, Drop, PartialEq, Eq)]
 pub struct PinInfo {
     pub name: Text,
     pub role: Role,
@@ -51,22 +52,18 @@ pub struct PinInfo {
 impl Duplicate for PinInfo {
     fn copy(&self, alloc: Global) -> Result<PinInfo, NoMemory> {
         let name = self.name.copy(alloc)?;
-        let role = self.role.copy(alloc)?;
-        let cell = self.cell.copy(alloc)?;
-        let lib_pin = self.lib_pin.copy(alloc)?;
-        let driver = self.driver.copy(alloc)?;
         Ok(PinInfo {
             name,
-            role,
-            cell,
-            lib_pin,
-            driver,
+            role: self.role,
+            cell: self.cell,
+            lib_pin: self.lib_pin,
+            driver: self.driver,
         })
     }
 }
 
 /// A cell of a design: its library cell by its place, and its pins, which stand one behind the other.
-#[derive(Debug, Drop, PartialEq, Eq, PartialOrd, Ord)]
+#[derive(Debug, Drop, PartialEq, Eq)]
 pub struct CellInfo {
     pub name: Text,
     pub kind: u32,
@@ -77,20 +74,17 @@ pub struct CellInfo {
 impl Duplicate for CellInfo {
     fn copy(&self, alloc: Global) -> Result<CellInfo, NoMemory> {
         let name = self.name.copy(alloc)?;
-        let kind = self.kind.copy(alloc)?;
-        let first = self.first.copy(alloc)?;
-        let count = self.count.copy(alloc)?;
         Ok(CellInfo {
             name,
-            kind,
-            first,
-            count,
+            kind: self.kind,
+            first: self.first,
+            count: self.count,
         })
     }
 }
 
 /// A net of a design.
-#[derive(Debug, Drop, PartialEq, Eq, PartialOrd, Ord)]
+#[derive(Debug, Drop, PartialEq, Eq)]
 pub struct NetInfo {
     pub name: Text,
     pub source: Source,
@@ -99,8 +93,10 @@ pub struct NetInfo {
 impl Duplicate for NetInfo {
     fn copy(&self, alloc: Global) -> Result<NetInfo, NoMemory> {
         let name = self.name.copy(alloc)?;
-        let source = self.source.copy(alloc)?;
-        Ok(NetInfo { name, source })
+        Ok(NetInfo {
+            name,
+            source: self.source,
+        })
     }
 }
 
@@ -120,14 +116,11 @@ pub struct Design {
 impl Duplicate for Design {
     fn copy(&self, alloc: Global) -> Result<Design, NoMemory> {
         let top = self.top.copy(alloc)?;
-        let unit = self.unit.copy(alloc)?;
-        let pins = self.pins.copy(alloc)?;
-        let cells = self.cells.copy(alloc)?;
-        let nets = self.nets.copy(alloc)?;
-        let kinds = self.kinds.copy(alloc)?;
+        let (pins, cells) = both(alloc, &self.pins, &self.cells)?;
+        let (nets, kinds) = both(alloc, &self.nets, &self.kinds)?;
         Ok(Design {
             top,
-            unit,
+            unit: self.unit,
             pins,
             cells,
             nets,

@@ -9,7 +9,7 @@ use std::alloc::Global;
 /// The rule is this project's own: `setup` is the least positive difference by which an edge of the capture clock
 /// follows one of the launch clock, and `hold` the greatest difference that is not above 0.
 /// `specs/Relation.antt` says so in full.
-#[derive(Debug, Clone, Copy, PartialEq, Eq, PartialOrd, Ord)]
+#[derive(Debug, Clone, Copy, PartialEq, Eq)]
 pub struct Relation {
     /// How far the next capture edge is behind a launch edge at the closest: above 0.
     pub setup: i64,
@@ -25,7 +25,7 @@ impl Duplicate for Relation {
 
 /// An edge of a clock in time: the clock's name, which edge it is, when it comes first, and the clock's period,
 /// in whole femtoseconds.
-#[derive(Debug, Drop, PartialEq, Eq, PartialOrd, Ord)]
+#[derive(Debug, Drop, PartialEq, Eq)]
 pub struct TimedEdge {
     pub clock: Text,
     pub edge: Edge,

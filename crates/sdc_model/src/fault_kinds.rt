@@ -6,7 +6,7 @@ use std::alloc::Global;
 use thiserror::Error;
 
 /// Faults of a netlist (IEEE 1364-2005).
-#[derive(Clone, Copy, Debug, PartialEq, Eq, PartialOrd, Ord, Error)]
+#[derive(Clone, Copy, Debug, PartialEq, Eq, Error)]
 pub enum VerilogKind {
     #[error("the file is no UTF-8 text")]
     NotText,
@@ -29,7 +29,7 @@ impl Duplicate for VerilogKind {
 }
 
 /// Faults of a design: of a netlist over a library.
-#[derive(Clone, Copy, Debug, PartialEq, Eq, PartialOrd, Ord, Error)]
+#[derive(Clone, Copy, Debug, PartialEq, Eq, Error)]
 pub enum DesignKind {
     #[error("a name is no module and no library cell")]
     UnknownModule,
@@ -58,7 +58,7 @@ impl Duplicate for DesignKind {
 }
 
 /// Faults of a mode over its design.
-#[derive(Clone, Copy, Debug, PartialEq, Eq, PartialOrd, Ord, Error)]
+#[derive(Clone, Copy, Debug, PartialEq, Eq, Error)]
 pub enum ModeKind {
     #[error("a pin is set to another value than the design gives it")]
     CaseConflict { pin: Pin, set: bool, derived: bool },

@@ -30,9 +30,11 @@ pub struct GivenPoints {
 
 impl Duplicate for GivenPoints {
     fn copy(&self, alloc: Global) -> Result<GivenPoints, NoMemory> {
-        let edge = self.edge.copy(alloc)?;
         let objects = self.objects.copy(alloc)?;
-        Ok(GivenPoints { edge, objects })
+        Ok(GivenPoints {
+            edge: self.edge,
+            objects,
+        })
     }
 }
 
@@ -55,22 +57,16 @@ pub struct Given {
 
 impl Duplicate for Given {
     fn copy(&self, alloc: Global) -> Result<Given, NoMemory> {
-        let line = self.line.copy(alloc)?;
-        let command = self.command.copy(alloc)?;
-        let sides = self.sides.copy(alloc)?;
-        let value = self.value.copy(alloc)?;
-        let by_launch = self.by_launch.copy(alloc)?;
-        let last = self.last.copy(alloc)?;
         let from = self.from.copy(alloc)?;
         let through = self.through.copy(alloc)?;
         let to = self.to.copy(alloc)?;
         Ok(Given {
-            line,
-            command,
-            sides,
-            value,
-            by_launch,
-            last,
+            line: self.line,
+            command: self.command,
+            sides: self.sides,
+            value: self.value,
+            by_launch: self.by_launch,
+            last: self.last,
             from,
             through,
             to,
@@ -88,10 +84,9 @@ pub struct Normal {
 impl Duplicate for Normal {
     fn copy(&self, alloc: Global) -> Result<Normal, NoMemory> {
         let exceptions = self.exceptions.copy(alloc)?;
-        let not_an_end = self.not_an_end.copy(alloc)?;
         Ok(Normal {
             exceptions,
-            not_an_end,
+            not_an_end: self.not_an_end,
         })
     }
 }

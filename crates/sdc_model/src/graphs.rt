@@ -35,7 +35,7 @@ impl Duplicate for Arc {
 }
 
 /// A check of a pin against a node of a clock pin.
-#[derive(Clone, Copy, Debug, PartialEq, Eq, PartialOrd, Ord)]
+#[derive(Clone, Copy, Debug, PartialEq, Eq)]
 pub struct Check {
     /// The pin that is checked.
     pub end: Pin,
@@ -61,9 +61,12 @@ pub struct Graph {
 
 impl Duplicate for Graph {
     fn copy(&self, alloc: Global) -> Result<Graph, NoMemory> {
-        let pins = self.pins.copy(alloc)?;
         let arcs = self.arcs.copy(alloc)?;
         let checks = self.checks.copy(alloc)?;
-        Ok(Graph { pins, arcs, checks })
+        Ok(Graph {
+            pins: self.pins,
+            arcs,
+            checks,
+        })
     }
 }

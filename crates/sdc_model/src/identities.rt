@@ -21,20 +21,14 @@ pub struct Definition {
 impl Duplicate for Definition {
     fn copy(&self, alloc: Global) -> Result<Definition, NoMemory> {
         let sources = self.sources.copy(alloc)?;
-        let wave = self.wave.copy(alloc)?;
-        let form = self.form.copy(alloc)?;
-        let latency = self.latency.copy(alloc)?;
-        let setup_uncertainty = self.setup_uncertainty.copy(alloc)?;
-        let hold_uncertainty = self.hold_uncertainty.copy(alloc)?;
-        let propagated = self.propagated.copy(alloc)?;
         Ok(Definition {
             sources,
-            wave,
-            form,
-            latency,
-            setup_uncertainty,
-            hold_uncertainty,
-            propagated,
+            wave: self.wave,
+            form: self.form,
+            latency: self.latency,
+            setup_uncertainty: self.setup_uncertainty,
+            hold_uncertainty: self.hold_uncertainty,
+            propagated: self.propagated,
         })
     }
 }
@@ -51,11 +45,10 @@ impl Duplicate for Standing {
     fn copy(&self, alloc: Global) -> Result<Standing, NoMemory> {
         let definition = self.definition.copy(alloc)?;
         let name = self.name.copy(alloc)?;
-        let place = self.place.copy(alloc)?;
         Ok(Standing {
             definition,
             name,
-            place,
+            place: self.place,
         })
     }
 }
@@ -70,7 +63,9 @@ pub struct Identity {
 impl Duplicate for Identity {
     fn copy(&self, alloc: Global) -> Result<Identity, NoMemory> {
         let definition = self.definition.copy(alloc)?;
-        let rank = self.rank.copy(alloc)?;
-        Ok(Identity { definition, rank })
+        Ok(Identity {
+            definition,
+            rank: self.rank,
+        })
     }
 }

@@ -16,11 +16,10 @@ pub struct ClassResult {
 
 impl Duplicate for ClassResult {
     fn copy(&self, alloc: Global) -> Result<ClassResult, NoMemory> {
-        let class = self.class.copy(alloc)?;
         let limits = self.limits.copy(alloc)?;
         let winners = self.winners.copy(alloc)?;
         Ok(ClassResult {
-            class,
+            class: self.class,
             limits,
             winners,
         })
@@ -41,18 +40,13 @@ pub struct KeyResult {
 
 impl Duplicate for KeyResult {
     fn copy(&self, alloc: Global) -> Result<KeyResult, NoMemory> {
-        let start = self.start.copy(alloc)?;
-        let last = self.last.copy(alloc)?;
-        let launch = self.launch.copy(alloc)?;
-        let capture = self.capture.copy(alloc)?;
-        let side = self.side.copy(alloc)?;
         let results = self.results.copy(alloc)?;
         Ok(KeyResult {
-            start,
-            last,
-            launch,
-            capture,
-            side,
+            start: self.start,
+            last: self.last,
+            launch: self.launch,
+            capture: self.capture,
+            side: self.side,
             results,
         })
     }
@@ -70,16 +64,12 @@ pub struct RelationResult {
 
 impl Duplicate for RelationResult {
     fn copy(&self, alloc: Global) -> Result<RelationResult, NoMemory> {
-        let end = self.end.copy(alloc)?;
-        let launch = self.launch.copy(alloc)?;
-        let capture = self.capture.copy(alloc)?;
-        let side = self.side.copy(alloc)?;
         let keys = self.keys.copy(alloc)?;
         Ok(RelationResult {
-            end,
-            launch,
-            capture,
-            side,
+            end: self.end,
+            launch: self.launch,
+            capture: self.capture,
+            side: self.side,
             keys,
         })
     }

@@ -6,7 +6,7 @@ use std::alloc::Global;
 use thiserror::Error;
 
 /// Faults of a script (Tcl). The subset that is read is this project's own.
-#[derive(Clone, Copy, Debug, PartialEq, Eq, PartialOrd, Ord, Error)]
+#[derive(Clone, Copy, Debug, PartialEq, Eq, Error)]
 pub enum TclKind {
     /// A brace, quote or bracket without its end.
     #[error("a brace, quote or bracket has no end")]
@@ -27,7 +27,7 @@ pub enum TclKind {
     #[error("a command has a wrong number of words")]
     WrongArgs,
     /// A number that cannot be read or computed.
-    #[error("{0}")]
+    #[error(transparent)]
     Number(NumberError),
     /// More than 100 levels of brackets, bodies and parentheses.
     #[error("more than 100 levels")]
@@ -44,7 +44,7 @@ impl Duplicate for TclKind {
 }
 
 /// Faults of a constraint file (SDC 2.1). The profile that is read is this project's own.
-#[derive(Clone, Copy, Debug, PartialEq, Eq, PartialOrd, Ord, Error)]
+#[derive(Clone, Copy, Debug, PartialEq, Eq, Error)]
 pub enum SdcKind {
     /// A name that is no command.
     #[error("no command of this name")]
@@ -79,7 +79,7 @@ impl Duplicate for SdcKind {
 }
 
 /// Faults of a library (Liberty).
-#[derive(Clone, Copy, Debug, PartialEq, Eq, PartialOrd, Ord, Error)]
+#[derive(Clone, Copy, Debug, PartialEq, Eq, Error)]
 pub enum LibKind {
     /// The file is no text.
     #[error("not a text")]
@@ -108,19 +108,19 @@ impl Duplicate for LibKind {
 }
 
 /// Faults of a source.
-#[derive(Clone, Copy, Debug, PartialEq, Eq, PartialOrd, Ord, Error)]
+#[derive(Clone, Copy, Debug, PartialEq, Eq, Error)]
 pub enum Kind {
-    #[error("{0}")]
+    #[error(transparent)]
     Tcl(TclKind),
-    #[error("{0}")]
+    #[error(transparent)]
     Sdc(SdcKind),
-    #[error("{0}")]
+    #[error(transparent)]
     Lib(LibKind),
-    #[error("{0}")]
+    #[error(transparent)]
     Verilog(VerilogKind),
-    #[error("{0}")]
+    #[error(transparent)]
     Design(DesignKind),
-    #[error("{0}")]
+    #[error(transparent)]
     Mode(ModeKind),
     /// The file is no UTF-8 text.
     #[error("not a text")]
@@ -141,7 +141,7 @@ impl Duplicate for Kind {
 
 /// The first fault of a run: the place of the file's word (the command's word has place 0), the line in the
 /// file, and the kind.
-#[derive(Clone, Copy, Debug, PartialEq, Eq, PartialOrd, Ord)]
+#[derive(Clone, Copy, Debug, PartialEq, Eq)]
 pub struct Fault {
     pub file: u32,
     pub line: u32,

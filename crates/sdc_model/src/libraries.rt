@@ -13,8 +13,10 @@ pub struct Library {
 
 impl Duplicate for Library {
     fn copy(&self, alloc: Global) -> Result<Library, NoMemory> {
-        let unit = self.unit.copy(alloc)?;
         let cells = self.cells.copy(alloc)?;
-        Ok(Library { unit, cells })
+        Ok(Library {
+            unit: self.unit,
+            cells,
+        })
     }
 }

@@ -1,12 +1,13 @@
 //! Cells of a library (Liberty): their pins, with the functions of the outputs, their timing arcs and checks.
 
+use crate::copies::both;
 use crate::functions::Expr;
 use crate::pins::{Edge, Side};
 use sdc_base::{Duplicate, List, NoMemory, Text};
 use std::alloc::Global;
 
 /// The direction of a library pin (Liberty, `direction`).
-#[derive(Clone, Copy, Debug, PartialEq, Eq, PartialOrd, Ord)]
+#[derive(Clone, Copy, Debug, PartialEq, Eq)]
 pub enum Direction {
     Input,
     Output,
@@ -31,11 +32,10 @@ pub struct LibPin {
 impl Duplicate for LibPin {
     fn copy(&self, alloc: Global) -> Result<LibPin, NoMemory> {
         let name = self.name.copy(alloc)?;
-        let direction = self.direction.copy(alloc)?;
         let function = self.function.copy(alloc)?;
         Ok(LibPin {
             name,
-            direction,
+            direction: self.direction,
             function,
         })
     }
@@ -43,7 +43,7 @@ impl Duplicate for LibPin {
 
 /// A timing arc of a library cell: its pins by their places, the pairs of transitions that it has, and whether
 /// it launches from a register's clock pin.
-#[derive(Clone, Copy, Debug, PartialEq, Eq, PartialOrd, Ord)]
+#[derive(Clone, Copy, Debug, PartialEq, Eq)]
 pub struct LibArc {
     pub from: u16,
     pub to: u16,
@@ -61,7 +61,7 @@ impl Duplicate for LibArc {
 }
 
 /// A check of a library cell: of a pin against an edge of a clock pin.
-#[derive(Clone, Copy, Debug, PartialEq, Eq, PartialOrd, Ord)]
+#[derive(Clone, Copy, Debug, PartialEq, Eq)]
 pub struct LibCheck {
     pub pin: u16,
     pub clock: u16,
@@ -88,17 +88,14 @@ pub struct LibCell {
 
 impl Duplicate for LibCell {
     fn copy(&self, alloc: Global) -> Result<LibCell, NoMemory> {
-        let name = self.name.copy(alloc)?;
-        let pins = self.pins.copy(alloc)?;
-        let arcs = self.arcs.copy(alloc)?;
-        let checks = self.checks.copy(alloc)?;
-        let refused = self.refused.copy(alloc)?;
+        let (name, pins) = both(alloc, &self.name, &self.pins)?;
+        let (arcs, checks) = both(alloc, &self.arcs, &self.checks)?;
         Ok(LibCell {
             name,
             pins,
             arcs,
             checks,
-            refused,
+            refused: self.refused,
         })
     }
 }

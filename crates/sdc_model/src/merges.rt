@@ -1,6 +1,7 @@
 //! The merged mode of several modes, with all that a report says of it. This project's own.
 
 use crate::analyses::Cycle;
+use crate::copies::both;
 use crate::fault_kinds::ModeKind;
 use crate::modes::Mode;
 use crate::pins::{ClockEdge, Node, Pin, Side};
@@ -23,21 +24,15 @@ pub struct Listed {
 
 impl Duplicate for Listed {
     fn copy(&self, alloc: Global) -> Result<Listed, NoMemory> {
-        let end = self.end.copy(alloc)?;
-        let launch = self.launch.copy(alloc)?;
-        let capture = self.capture.copy(alloc)?;
-        let side = self.side.copy(alloc)?;
         let path = self.path.copy(alloc)?;
-        let merged = self.merged.copy(alloc)?;
-        let required = self.required.copy(alloc)?;
         Ok(Listed {
-            end,
-            launch,
-            capture,
-            side,
+            end: self.end,
+            launch: self.launch,
+            capture: self.capture,
+            side: self.side,
             path,
-            merged,
-            required,
+            merged: self.merged,
+            required: self.required,
         })
     }
 }
@@ -52,12 +47,10 @@ pub struct Left {
 
 impl Duplicate for Left {
     fn copy(&self, alloc: Global) -> Result<Left, NoMemory> {
-        let mode = self.mode.copy(alloc)?;
-        let line = self.line.copy(alloc)?;
         let command = self.command.copy(alloc)?;
         Ok(Left {
-            mode,
-            line,
+            mode: self.mode,
+            line: self.line,
             command,
         })
     }
@@ -65,7 +58,7 @@ impl Duplicate for Left {
 
 /// The merged mode, its clocks with the modes' clocks that they are, the relations that it times without need or
 /// too strictly, and the commands that it does not have.
-#[derive(Debug, Drop, PartialEq, Eq, PartialOrd, Ord)]
+#[derive(Debug, Drop, PartialEq, Eq)]
 pub struct Merged {
     pub mode: Mode,
     pub clocks: ClockMap,
@@ -75,10 +68,8 @@ pub struct Merged {
 
 impl Duplicate for Merged {
     fn copy(&self, alloc: Global) -> Result<Merged, NoMemory> {
-        let mode = self.mode.copy(alloc)?;
-        let clocks = self.clocks.copy(alloc)?;
-        let listed = self.listed.copy(alloc)?;
-        let left = self.left.copy(alloc)?;
+        let (mode, clocks) = both(alloc, &self.mode, &self.clocks)?;
+        let (listed, left) = both(alloc, &self.listed, &self.left)?;
         Ok(Merged {
             mode,
             clocks,

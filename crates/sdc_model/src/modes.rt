@@ -2,13 +2,14 @@
 
 use crate::clocks::{Clock, Pair};
 use crate::constraints::{CaseSet, Disable, Exception, IoDelay};
+use crate::copies::both;
 use crate::objects::{Kept, Note};
 use sdc_base::{Duplicate, List, NoMemory};
 use std::alloc::Global;
 
 /// A mode. Clocks, exceptions, kept commands and notes stand in order of execution; exclusive pairs in order,
 /// each once; cases by pin; disabled pins by pin, then pairs; delays by port, clock and edge.
-#[derive(Debug, Drop, PartialEq, Eq, PartialOrd, Ord)]
+#[derive(Debug, Drop, PartialEq, Eq)]
 pub struct Mode {
     pub clocks: List<Clock>,
     pub exclusive: List<Pair>,
@@ -22,14 +23,10 @@ pub struct Mode {
 
 impl Duplicate for Mode {
     fn copy(&self, alloc: Global) -> Result<Mode, NoMemory> {
-        let clocks = self.clocks.copy(alloc)?;
-        let exclusive = self.exclusive.copy(alloc)?;
-        let cases = self.cases.copy(alloc)?;
-        let disabled = self.disabled.copy(alloc)?;
-        let delays = self.delays.copy(alloc)?;
-        let exceptions = self.exceptions.copy(alloc)?;
-        let kept = self.kept.copy(alloc)?;
-        let notes = self.notes.copy(alloc)?;
+        let (clocks, exclusive) = both(alloc, &self.clocks, &self.exclusive)?;
+        let (cases, disabled) = both(alloc, &self.cases, &self.disabled)?;
+        let (delays, exceptions) = both(alloc, &self.delays, &self.exceptions)?;
+        let (kept, notes) = both(alloc, &self.kept, &self.notes)?;
         Ok(Mode {
             clocks,
             exclusive,

@@ -1,5 +1,6 @@
 //! Modules of a netlist (IEEE 1364-2005), in the part of the language that is read here.
 
+use crate::copies::both;
 use crate::library_cells::Direction;
 use sdc_base::{Duplicate, List, NoMemory, Text};
 use std::alloc::Global;
@@ -28,12 +29,10 @@ pub struct Port {
 impl Duplicate for Port {
     fn copy(&self, alloc: Global) -> Result<Port, NoMemory> {
         let name = self.name.copy(alloc)?;
-        let direction = self.direction.copy(alloc)?;
-        let range = self.range.copy(alloc)?;
         Ok(Port {
             name,
-            direction,
-            range,
+            direction: self.direction,
+            range: self.range,
         })
     }
 }
@@ -49,9 +48,11 @@ pub struct Wire {
 impl Duplicate for Wire {
     fn copy(&self, alloc: Global) -> Result<Wire, NoMemory> {
         let name = self.name.copy(alloc)?;
-        let range = self.range.copy(alloc)?;
-        let tie = self.tie.copy(alloc)?;
-        Ok(Wire { name, range, tie })
+        Ok(Wire {
+            name,
+            range: self.range,
+            tie: self.tie,
+        })
     }
 }
 
@@ -95,12 +96,11 @@ pub struct Instance {
 
 impl Duplicate for Instance {
     fn copy(&self, alloc: Global) -> Result<Instance, NoMemory> {
-        let line = self.line.copy(alloc)?;
         let kind = self.kind.copy(alloc)?;
         let name = self.name.copy(alloc)?;
         let links = self.links.copy(alloc)?;
         Ok(Instance {
-            line,
+            line: self.line,
             kind,
             name,
             links,
@@ -137,14 +137,11 @@ pub struct Module {
 impl Duplicate for Module {
     fn copy(&self, alloc: Global) -> Result<Module, NoMemory> {
         let name = self.name.copy(alloc)?;
-        let line = self.line.copy(alloc)?;
-        let ports = self.ports.copy(alloc)?;
-        let nets = self.nets.copy(alloc)?;
-        let instances = self.instances.copy(alloc)?;
-        let assigns = self.assigns.copy(alloc)?;
+        let (ports, nets) = both(alloc, &self.ports, &self.nets)?;
+        let (instances, assigns) = both(alloc, &self.instances, &self.assigns)?;
         Ok(Module {
             name,
-            line,
+            line: self.line,
             ports,
             nets,
             instances,

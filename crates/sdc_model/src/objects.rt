@@ -21,7 +21,7 @@ impl Duplicate for Object {
 }
 
 /// A word of a command once it is evaluated: a text, or a list of objects.
-#[derive(Debug, Drop, PartialEq, Eq, PartialOrd, Ord)]
+#[derive(Debug, Drop, PartialEq, Eq)]
 pub enum Value {
     Text(Text),
     Objects(List<Object>),
@@ -43,7 +43,7 @@ impl Duplicate for Value {
 }
 
 /// An environment command that is kept as it is, its name first.
-#[derive(Debug, Drop, PartialEq, Eq, PartialOrd, Ord)]
+#[derive(Debug, Drop, PartialEq, Eq)]
 pub struct Kept {
     pub line: u32,
     pub words: List<Value>,
@@ -51,14 +51,16 @@ pub struct Kept {
 
 impl Duplicate for Kept {
     fn copy(&self, alloc: Global) -> Result<Kept, NoMemory> {
-        let line = self.line.copy(alloc)?;
         let words = self.words.copy(alloc)?;
-        Ok(Kept { line, words })
+        Ok(Kept {
+            line: self.line,
+            words,
+        })
     }
 }
 
 /// Why a command had less effect than it asked for.
-#[derive(Clone, Copy, Debug, PartialEq, Eq, PartialOrd, Ord)]
+#[derive(Clone, Copy, Debug, PartialEq, Eq)]
 pub enum NoteKind {
     NoEffect,
     NotAnEnd,
@@ -72,7 +74,7 @@ impl Duplicate for NoteKind {
 }
 
 /// A note on the command of a line.
-#[derive(Clone, Copy, Debug, PartialEq, Eq, PartialOrd, Ord)]
+#[derive(Clone, Copy, Debug, PartialEq, Eq)]
 pub struct Note {
     pub line: u32,
     pub kind: NoteKind,

@@ -16,12 +16,10 @@ pub struct Path {
 impl Duplicate for Path {
     fn copy(&self, alloc: Global) -> Result<Path, NoMemory> {
         let nodes = self.nodes.copy(alloc)?;
-        let launch = self.launch.copy(alloc)?;
-        let capture = self.capture.copy(alloc)?;
         Ok(Path {
             nodes,
-            launch,
-            capture,
+            launch: self.launch,
+            capture: self.capture,
         })
     }
 }
@@ -39,16 +37,12 @@ pub struct PathFacts {
 
 impl Duplicate for PathFacts {
     fn copy(&self, alloc: Global) -> Result<PathFacts, NoMemory> {
-        let start = self.start.copy(alloc)?;
-        let last = self.last.copy(alloc)?;
-        let launch = self.launch.copy(alloc)?;
-        let capture = self.capture.copy(alloc)?;
         let met = self.met.copy(alloc)?;
         Ok(PathFacts {
-            start,
-            last,
-            launch,
-            capture,
+            start: self.start,
+            last: self.last,
+            launch: self.launch,
+            capture: self.capture,
             met,
         })
     }

@@ -63,18 +63,13 @@ pub struct RelationReport {
 
 impl Duplicate for RelationReport {
     fn copy(&self, alloc: Global) -> Result<RelationReport, NoMemory> {
-        let launch = self.launch.copy(alloc)?;
-        let capture = self.capture.copy(alloc)?;
-        let side = self.side.copy(alloc)?;
-        let limit = self.limit.copy(alloc)?;
-        let line = self.line.copy(alloc)?;
         let path = self.path.copy(alloc)?;
         Ok(RelationReport {
-            launch,
-            capture,
-            side,
-            limit,
-            line,
+            launch: self.launch,
+            capture: self.capture,
+            side: self.side,
+            limit: self.limit,
+            line: self.line,
             path,
         })
     }
@@ -89,9 +84,11 @@ pub struct Explained {
 
 impl Duplicate for Explained {
     fn copy(&self, alloc: Global) -> Result<Explained, NoMemory> {
-        let end = self.end.copy(alloc)?;
         let relations = self.relations.copy(alloc)?;
-        Ok(Explained { end, relations })
+        Ok(Explained {
+            end: self.end,
+            relations,
+        })
     }
 }
 

@@ -1,13 +1,14 @@
 //! Modes as an analysis sees them, and the clocks of several modes as one list.
 
 use crate::clocks::{Clock, Wave};
+use crate::copies::both;
 use crate::modes::Mode;
 use crate::pins::ClockEdge;
 use sdc_base::{Duplicate, List, NoMemory};
 use std::alloc::Global;
 
 /// The clock edges that arrive at each node of a graph, the nodes by number, the edges of a node in order.
-#[derive(Debug, Drop, PartialEq, Eq, PartialOrd, Ord)]
+#[derive(Debug, Drop, PartialEq, Eq)]
 pub struct Arrivals {
     pub at: List<List<ClockEdge>>,
 }
@@ -21,7 +22,7 @@ impl Duplicate for Arrivals {
 
 /// A mode, with what is derived from it: the waveform of each clock, where clock edges arrive, and which merged
 /// clock each clock is.
-#[derive(Debug, Drop, PartialEq, Eq, PartialOrd, Ord)]
+#[derive(Debug, Drop, PartialEq, Eq)]
 pub struct View {
     pub mode: Mode,
     pub waves: List<Wave>,
@@ -31,10 +32,8 @@ pub struct View {
 
 impl Duplicate for View {
     fn copy(&self, alloc: Global) -> Result<View, NoMemory> {
-        let mode = self.mode.copy(alloc)?;
-        let waves = self.waves.copy(alloc)?;
-        let arrivals = self.arrivals.copy(alloc)?;
-        let clock_map = self.clock_map.copy(alloc)?;
+        let (mode, waves) = both(alloc, &self.mode, &self.waves)?;
+        let (arrivals, clock_map) = both(alloc, &self.arrivals, &self.clock_map)?;
         Ok(View {
             mode,
             waves,
@@ -46,7 +45,7 @@ impl Duplicate for View {
 
 /// The merged clocks of several modes with their waveforms, and for each mode the merged clock that each of its
 /// clocks is.
-#[derive(Debug, Drop, PartialEq, Eq, PartialOrd, Ord)]
+#[derive(Debug, Drop, PartialEq, Eq)]
 pub struct ClockMap {
     pub clocks: List<Clock>,
     pub waves: List<Wave>,

@@ -1,0 +1,196 @@
+-- Bytes have a meaning as a netlist: their tokens stand in a row, since each leaves less text behind it, and the machine
+-- finds where they break.
+use Rattle.std.proofs.Common.{◌≡◌, ◌+◌, ◌<◌, ◌≤◌, ◌∙◌, ℕ, zero, suc, Bool, true, false, List, [], ◌∷◌, Option, None, Some, Result, drop, length, refl, sym, subst, inl, inr, arith}
+use Rattle.std.specs.Prelude.{◌==◌, ◌||◌, not, if◌then◌else◌}
+use Rattle.std.specs.List.{prefix_len}
+use Rattle.std.specs.Str.{IsUtf8, is_utf8}
+use Rattle.std.proofs.lemmas.List.{length-drop}
+use Rattle.std.proofs.lemmas.Str.{IsUtf8-from_is_utf8, is_utf8-from_IsUtf8}
+use Rattle.token_grammar.proofs.Breaking.{breaks}
+use Rattle.token_grammar.proofs.Derivations.{by_option}
+use Rattle.token_grammar.specs.Machine.{break_of}
+use Rattle.sdc_base.proofs.CaseFacts.{by_bool}
+use Rattle.sdc_base.specs.declared.memory.At.{At}
+use Rattle.sdc_model.proofs.RowFacts.{not_both, same_place}
+use Rattle.sdc_model.proofs.VerilogDecides.{decides, follow}
+use Rattle.sdc_model.specs.declared.fault_kinds.VerilogKind.{VerilogKind}
+use Rattle.sdc_model.specs.declared.fault_kinds.VerilogKind.TheVariants.{NotText}
+use Rattle.sdc_model.specs.declared.netlists.Module.{Module}
+use Rattle.sdc_model.specs.declared.verilog_tokens.VerilogSymbol.TheVariants.{Source}
+use Rattle.sdc_model.specs.declared.verilog_tokens.VerilogToken.TheVariants as kind
+use Rattle.sdc_model.specs.Bytes.{is_digit, is_letter}
+use Rattle.sdc_model.specs.LastLine.{broken_text_line}
+use Rattle.sdc_model.specs.Row.{Front, Row, found, stops}
+use Rattle.sdc_model.specs.Verilog.{ReadsText, ReadsVerilog, fault, meaning}
+use Rattle.sdc_model.specs.VerilogConstants.{is_base_letter, is_digits_byte, is_number_byte, lower}
+use Rattle.sdc_model.specs.VerilogGrammar.{verilog}
+use Rattle.sdc_model.specs.VerilogKinds.{kinds_of}
+use Rattle.sdc_model.specs.VerilogTokens.{AreTokens, Gap, Lexed, Place, Token, base_token, begins_word, behind_gap, between, closes, digits_token, ended_gap, escaped_token, first_place, front_behind, gap_behind, inside, is_blank, is_word_byte, mark_kind, number_token, opens, plain, plain_token, rest_of_line, token_at, token_behind, word_token}
+
+-- ---- what is left behind a run of bytes
+
+left : (len : ℕ) (text : List ℕ) → length (drop len text) ≤ length text
+left len text = omega (arith, length-drop len text)
+
+less_left : (test : ℕ → Bool) (b : ℕ) (bs : List ℕ) → test b ≡ true → length (drop (prefix_len test (b ∷ bs)) (b ∷ bs)) ≤ length bs
+less_left test b bs passes =
+    subst (λ t. length (drop (if t then 1 + prefix_len test bs else 0) (b ∷ bs)) ≤ length bs) (sym passes)
+    (omega (arith, length-drop (1 + prefix_len test bs) (b ∷ bs)))
+
+-- ---- a token is at least one byte
+
+word_first : (letter digit underscore dollar : Bool) → (letter || underscore) ≡ true → ((letter || digit || underscore) || dollar) ≡ true
+word_first true digit underscore dollar is = refl
+word_first false true underscore dollar is = refl
+word_first false false true dollar is = refl
+word_first false false false dollar is = cc
+
+number_first : (digit underscore : Bool) → digit ≡ true → (digit || underscore) ≡ true
+number_first true underscore is = refl
+number_first false underscore is = cc
+
+abbrev Leaves : List ℕ → Lexed → Type 0
+Leaves bs token = length token.behind ≤ length bs
+
+-- either of two tokens, by a test
+either : (P : Lexed → Type 0) (test : Bool) (one other : Lexed) → (test ≡ true → P one) → (test ≡ false → P other) → P (if test then one else other)
+either P true one other h k = h refl
+either P false one other h k = k refl
+
+base_leaves : (bs : List ℕ) → Leaves bs (base_token bs)
+base_leaves [] = omega arith
+base_leaves (b ∷ bs) =
+    either (Leaves (b ∷ bs)) (is_base_letter b) (record { kind = kind.Base; text = b ∷ []; base = Some (lower b); behind = bs }) (plain kind.Other [] (b ∷ bs))
+    (λ is. omega arith)
+    (λ is. omega arith)
+
+plain_leaves : (b : ℕ) (bs : List ℕ) → Leaves bs (plain_token b bs)
+plain_leaves b bs =
+    either (Leaves bs) (begins_word b) (word_token (b ∷ bs)) (if is_digit b then number_token (b ∷ bs) else (if b == 92 then escaped_token bs else (if b == 39 then base_token bs else plain (mark_kind b) [] bs)))
+    (λ is. less_left is_word_byte b bs (word_first (is_letter b) (is_digit b) (b == 95) (b == 36) is))
+    (λ no_word. either (Leaves bs) (is_digit b) (number_token (b ∷ bs)) (if b == 92 then escaped_token bs else (if b == 39 then base_token bs else plain (mark_kind b) [] bs))
+    (λ is. less_left is_number_byte b bs (number_first (is_digit b) (b == 95) is))
+    (λ no_number. either (Leaves bs) (b == 92) (escaped_token bs) (if b == 39 then base_token bs else plain (mark_kind b) [] bs)
+    (λ is. left (prefix_len (λ c. not (is_blank c)) bs) bs)
+    (λ no_escape. either (Leaves bs) (b == 39) (base_token bs) (plain (mark_kind b) [] bs)
+    (λ is. base_leaves bs)
+    (λ is. omega arith))))
+
+token_leaves : (base : Option ℕ) (b : ℕ) (bs : List ℕ) → Leaves bs (token_behind base b bs)
+token_leaves None b bs = plain_leaves b bs
+token_leaves (Some letter) b bs =
+    either (Leaves bs) (is_digits_byte b) (digits_token letter (b ∷ bs)) (plain_token b bs)
+    (λ is. less_left is_digits_byte b bs is)
+    (λ no_digits. plain_leaves b bs)
+
+-- ---- a gap leaves no more text than there was
+
+IsLeft : List ℕ → Option (List ℕ) → Type 0
+IsLeft text None = Unit {0}
+IsLeft text (Some rest) = length rest ≤ length text
+
+ended_left : (gap : Gap) → IsLeft [] (ended_gap gap)
+unfolding IsLeft
+ended_left between = omega arith
+ended_left rest_of_line = omega arith
+ended_left (opens close) = tt
+ended_left (inside close) = tt
+ended_left closes = omega arith
+
+more_left : (b : ℕ) (bs : List ℕ) (rest : Option (List ℕ)) → IsLeft bs rest → IsLeft (b ∷ bs) rest
+unfolding IsLeft
+more_left b bs None h = tt
+more_left b bs (Some rest) h = omega (arith, h)
+
+gap_left : (gap : Gap) (text : List ℕ) → IsLeft text (behind_gap gap text)
+unfolding IsLeft behind_gap
+gap_left gap [] = ended_left gap
+gap_left gap (b ∷ bs) =
+    by_option (λ next. IsLeft (b ∷ bs) (elim next [ None ↦ Some (b ∷ bs) | Some next ↦ behind_gap next bs ])) (gap_behind gap b bs)
+    (λ next is. more_left b bs (behind_gap next bs) (gap_left next bs))
+    (λ is. omega arith)
+
+-- ---- what stands at a place leaves less text
+
+abbrev Leftover : Type 0
+Leftover = Front Token Place (Unit {0})
+
+Shorter : List ℕ → Leftover → Type 0
+Shorter text front = (t : Token) (next : Place) → front ≡ found t next → length next.text < length text
+
+stops_short : (text : List ℕ) → Shorter text (stops tt)
+unfolding Shorter
+stops_short text t next is = absurd (not_both t next tt (sym is))
+
+found_short : (text : List ℕ) (t : Token) (place : Place) → length place.text < length text → Shorter text (found t place)
+unfolding Shorter
+found_short text t place short u other is = subst (λ (p : Place). length p.text < length text) (same_place t u place other is) short
+
+has_text : (text : List ℕ) → behind_gap between text ≡ None → 0 < length text
+unfolding behind_gap
+has_text [] is = cc
+has_text (b ∷ bs) is = omega arith
+
+front_short : (place : Place) (rest : Option (List ℕ)) → behind_gap between place.text ≡ rest → IsLeft place.text rest → Shorter place.text (front_behind place rest)
+unfolding IsLeft
+front_short place None is h = found_short place.text _ _ (has_text place.text is)
+front_short place (Some []) is h = stops_short place.text
+front_short place (Some (b ∷ bs)) is h =
+    let leaves = token_leaves place.base b bs in
+    found_short place.text _ _ (omega (arith, leaves, h))
+
+place_short : (place : Place) → Shorter place.text (token_at place)
+unfolding token_at
+place_short place = front_short place (behind_gap between place.text) refl (gap_left between place.text)
+
+token_short : (place : Place) (t : Token) (next : Place) → token_at place ≡ found t next → length next.text < length place.text
+unfolding Shorter
+token_short place t next is = place_short place t next is
+
+-- ---- tokens of a text
+
+Tokens : Place → Type 0
+Tokens place = (tokens : List Token) × Row (λ p front. token_at p ≡ front) tokens place tt
+
+row_from : (place : Place) (front : Leftover) → token_at place ≡ front → ((next : Place) → length next.text < length place.text → Tokens next) → Tokens place
+unfolding Tokens
+row_from place (stops tt) is shorter = ([], is)
+row_from place (found t next) is shorter =
+    let more = shorter next (token_short place t next is) in (t ∷ more.0, (next, is, more.1))
+
+row : (fuel : ℕ) (place : Place) → length place.text ≤ fuel → Tokens place
+row zero place short = row_from place (token_at place) refl (λ next less. absurd (omega (arith, less, short)))
+row (suc fuel) place short = row_from place (token_at place) refl (λ next less. row fuel next (omega (arith, less, short)))
+
+tokens_some : (text : List ℕ) → (tokens : List Token) × AreTokens text tokens
+unfolding Tokens
+tokens_some text = row (length text) (first_place text) (omega arith)
+
+-- ---- bytes
+
+text_some : (bytes : List ℕ) → IsUtf8 bytes → (outcome : Result (List Module) (At VerilogKind)) × ReadsText bytes outcome
+text_some bytes text =
+    let some = tokens_some bytes in
+    let break = break_of verilog Source (kinds_of some.0) in (
+      meaning bytes some.0 break,
+      record {
+        tokens = some.0;
+        break = break;
+        text = text;
+        stand = some.1;
+        breaks = breaks verilog follow decides Source (kinds_of some.0);
+        is = refl;
+      },
+    )
+
+true_is_false : true ≡ false → ⊥
+true_is_false is = cc
+
+no_text : (bytes : List ℕ) → is_utf8 bytes ≡ false → IsUtf8 bytes → ⊥
+no_text bytes fails text = true_is_false (sym (is_utf8-from_IsUtf8 bytes text) ∙ fails)
+
+pub netlist_some : (bytes : List ℕ) → (outcome : Result (List Module) (At VerilogKind)) × ReadsVerilog bytes outcome
+netlist_some bytes =
+    by_bool (λ b. (outcome : Result (List Module) (At VerilogKind)) × ReadsVerilog bytes outcome) (is_utf8 bytes)
+    (λ passes. let some = text_some bytes (IsUtf8-from_is_utf8 bytes passes) in (some.0, inl some.1))
+    (λ fails. (fault (broken_text_line bytes) NotText, inr (no_text bytes fails, refl)))

@@ -1,5 +1,0 @@
-use Rattle.sdc_model.proofs.FactsOfPaths.{facts_match}
-use Rattle.sdc_model.proofs.timing_laws.facts_match_as_their_path.Goals as goal
-
-pub returns : goal.returns
-returns c = facts_match

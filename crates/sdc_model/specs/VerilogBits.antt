@@ -1,0 +1,85 @@
+-- The grammar of what is assigned and connected in structural Verilog (IEEE 1364-2005, syntax of nets, constants,
+-- concatenations and instances, as far as it is read here). It reads: a symbol that begins with a token is that token with
+-- these symbols behind it.
+use Rattle.std.specs.Prelude.{List, [], ◌∷◌, Option, Some, None}
+use Rattle.sdc_model.specs.declared.verilog_tokens.VerilogSymbol.{VerilogSymbol}
+use Rattle.sdc_model.specs.declared.verilog_tokens.VerilogSymbol.TheVariants.{Token, Assignments, Left, LeftParts, Select, SelectEnd, Index, Bits, Parts, Instances, Connections, Connected, OrderedConnections, NamedConnections}
+use Rattle.sdc_model.specs.declared.verilog_tokens.VerilogToken.{VerilogToken}
+use Rattle.sdc_model.specs.declared.verilog_tokens.VerilogToken.TheVariants as kind
+
+-- what stands behind a token
+abbrev pub Behind : Type 0
+Behind = Option (List VerilogSymbol)
+
+-- ---- numbers and bits
+
+abbrev pub bound : VerilogToken → Behind
+bound kind.Size = Some []
+bound kind.Number = Some []
+bound _ = None
+
+abbrev pub assignments : VerilogToken → Behind
+assignments kind.Comma = Some (Left ∷ Token kind.Equals ∷ Bits ∷ Assignments ∷ [])
+assignments kind.Semicolon = Some []
+assignments _ = None
+
+abbrev pub left : VerilogToken → Behind
+left kind.Name = Some (Select ∷ [])
+left kind.OpenBrace = Some (Left ∷ LeftParts ∷ [])
+left _ = None
+
+abbrev pub left_parts : VerilogToken → Behind
+left_parts kind.Comma = Some (Left ∷ LeftParts ∷ [])
+left_parts kind.CloseBrace = Some []
+left_parts _ = None
+
+abbrev pub select : VerilogToken → Behind
+select kind.OpenBracket = Some (Index ∷ SelectEnd ∷ [])
+select _ = None
+
+abbrev pub select_end : VerilogToken → Behind
+select_end kind.Colon = Some (Index ∷ Token kind.CloseBracket ∷ [])
+select_end kind.CloseBracket = Some []
+select_end _ = None
+
+abbrev pub index : VerilogToken → Behind
+index kind.LargeNumber = Some []
+index k = bound k
+
+abbrev pub bits : VerilogToken → Behind
+bits kind.Name = Some (Select ∷ [])
+bits kind.Size = Some (Token kind.Base ∷ Token kind.Digits ∷ [])
+bits kind.OpenBrace = Some (Bits ∷ Parts ∷ [])
+bits _ = None
+
+abbrev pub parts : VerilogToken → Behind
+parts kind.Comma = Some (Bits ∷ Parts ∷ [])
+parts kind.CloseBrace = Some []
+parts _ = None
+
+-- ---- instances
+
+abbrev pub instances : VerilogToken → Behind
+instances kind.Comma = Some (Token kind.Name ∷ Token kind.Open ∷ Connections ∷ Instances ∷ [])
+instances kind.Semicolon = Some []
+instances _ = None
+
+-- none, named ones, or ordered ones, of which the first may be empty
+abbrev pub connections : VerilogToken → Behind
+connections kind.Close = Some []
+connections kind.Dot = Some (Token kind.Name ∷ Token kind.Open ∷ Connected ∷ Token kind.Close ∷ NamedConnections ∷ [])
+connections kind.Comma = Some (Connected ∷ OrderedConnections ∷ [])
+connections kind.Name = Some (Select ∷ OrderedConnections ∷ [])
+connections kind.Size = Some (Token kind.Base ∷ Token kind.Digits ∷ OrderedConnections ∷ [])
+connections kind.OpenBrace = Some (Bits ∷ Parts ∷ OrderedConnections ∷ [])
+connections _ = None
+
+abbrev pub ordered_connections : VerilogToken → Behind
+ordered_connections kind.Comma = Some (Connected ∷ OrderedConnections ∷ [])
+ordered_connections kind.Close = Some []
+ordered_connections _ = None
+
+abbrev pub named_connections : VerilogToken → Behind
+named_connections kind.Comma = Some (Token kind.Dot ∷ Token kind.Name ∷ Token kind.Open ∷ Connected ∷ Token kind.Close ∷ NamedConnections ∷ [])
+named_connections kind.Close = Some []
+named_connections _ = None
