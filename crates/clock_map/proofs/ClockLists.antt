@@ -1,6 +1,6 @@
 -- The clocks of all modes, none of them generated, one mode behind the other.
-use Rattle.std.proofs.Common.{◌≡◌, ℕ, zero, suc, ◌+◌, ◌<◌, ◌≤◌, List, [], ◌∷◌, ◌++◌, length, drop, get_or, sym, ap, ◌∙◌, subst, append_assoc, arith}
-use Rattle.std.proofs.lemmas.List.{append-nil, drop_more, drop_all}
+use Rattle.std.proofs.Common.{◌≡◌, ℕ, zero, suc, ◌+◌, ◌<◌, List, [], ◌∷◌, ◌++◌, length, drop, get_or, sym, ap, ◌∙◌, subst, append_assoc, arith}
+use Rattle.std.proofs.lemmas.List.{drop_more}
 use Rattle.sdc_model.specs.declared.views.View.{View}
 use Rattle.sdc_model.specs.declared.identities.Standing.{Standing}
 use Rattle.sdc_model.specs.declared.identities.Identity.{Identity}
@@ -43,11 +43,3 @@ clocks_step views i view standings standings' identities identities' within is s
       identity = part_more identities identities' (identities_among (mode_standings [] view)) _ (identities_of (drop i views) []) _
           (ap (λ vs. identities_of vs []) left) identities_is known.identity;
     }
-
-pub clocks_done : (views : List View) (i : ℕ) (standings : List Standing) (identities : List Identity) → length views ≤ i
-    → ClocksSoFar views i standings identities → (standings ≡ standings_of views []) × (identities ≡ identities_of views [])
-clocks_done views i standings identities all known =
-    let left : drop i views ≡ [] = drop_all i views all in (
-      sym (append-nil standings) ∙ ap (λ vs. standings ++ standings_of vs []) (sym left) ∙ known.standing,
-      sym (append-nil identities) ∙ ap (λ vs. identities ++ identities_of vs []) (sym left) ∙ known.identity,
-    )

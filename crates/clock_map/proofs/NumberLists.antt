@@ -30,15 +30,6 @@ get_push_cases (z ∷ xs) y zero x e = inl e
 get_push_cases (z ∷ xs) y (suc p) x e =
     elim (get_push_cases xs y p x e) [ inl old ↦ inl old | inr new ↦ inr (ap suc new.0, new.1) ]
 
-pub get_push_old : {X : Type 0} (xs : List X) (y : X) (p : ℕ) (x : X) → slice_get xs p ≡ Some x → slice_get (xs ++ y ∷ []) p ≡ Some x
-get_push_old [] y p x e = cc
-get_push_old (z ∷ xs) y zero x e = e
-get_push_old (z ∷ xs) y (suc p) x e = get_push_old xs y p x e
-
-pub get_push_new : {X : Type 0} (xs : List X) (y : X) → slice_get (xs ++ y ∷ []) (length xs) ≡ Some y
-get_push_new [] y = refl
-get_push_new (z ∷ xs) y = get_push_new xs y
-
 -- two lists that grew together
 pub pair_cases : {X Y : Type 0} (xs : List X) (ys : List Y) (a : X) (b : Y) (p : ℕ) (x : X) (y : Y) → length ys ≡ length xs
     → slice_get (xs ++ a ∷ []) p ≡ Some x → slice_get (ys ++ b ∷ []) p ≡ Some y

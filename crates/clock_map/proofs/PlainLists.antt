@@ -1,6 +1,6 @@
 -- Testing clocks and modes one by one.
 use Rattle.std.proofs.Common.{◌≡◌, ℕ, zero, suc, ◌+◌, ◌-◌, ◌<◌, ◌≤◌, ◌^◌, List, [], ◌∷◌, ◌++◌, length, take, get_or, sym, ap, ◌∙◌, subst, arith}
-use Rattle.std.proofs.lemmas.List.{take_more, take_all}
+use Rattle.std.proofs.lemmas.List.{take_more}
 use Rattle.sdc_model.specs.declared.clocks.Clock.{Clock}
 use Rattle.sdc_model.specs.declared.views.View.{View}
 use Rattle.sdc_model.specs.PlainViews.{IsPrimary, ArePrimary, ModesArePrimary, HaveWaves, clock_count, ArePlain}
@@ -67,10 +67,3 @@ too_many views i left view within is many known plain =
     let few = plain.few in
     let count = known.count in
     absurd (omega arith)
-
-pub plain_done : (views : List View) (i left : ℕ) → length views ≤ i → PlainSoFar views i left → ArePlain views
-plain_done views i left done known =
-    let all : take i views ≡ views = take_all i views done in
-    let count = known.count in
-    let counted : clock_count (take i views) ≡ clock_count views = ap clock_count all in
-    record { primary = subst ModesArePrimary all known.primary; waves = subst HaveWaves all known.waves; few = omega arith }

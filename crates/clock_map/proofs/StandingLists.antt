@@ -1,6 +1,6 @@
 -- The clocks of modes without generated clocks, as ranks see them.
-use Rattle.std.proofs.Common.{◌≡◌, ℕ, zero, suc, ◌+◌, ◌<◌, ◌≤◌, List, [], ◌∷◌, ◌++◌, length, drop, get_or, refl, sym, ap, ◌∙◌, subst, append_assoc, add-one, arith}
-use Rattle.std.proofs.lemmas.List.{append-nil, drop_more, drop_all}
+use Rattle.std.proofs.Common.{◌≡◌, ℕ, zero, suc, ◌+◌, ◌<◌, List, [], ◌∷◌, ◌++◌, length, drop, get_or, refl, sym, ap, ◌∙◌, subst, append_assoc, add-one, arith}
+use Rattle.std.proofs.lemmas.List.{drop_more}
 use Rattle.sdc_model.specs.declared.clocks.Clock.{Clock}
 use Rattle.sdc_model.specs.declared.clocks.Wave.{Wave}
 use Rattle.sdc_model.specs.declared.clocks.Form.{Form}
@@ -59,10 +59,3 @@ standings_step view i clock wave none standings after standing primary waves wit
     ∙ ap (λ s. standings ++ (s ∷ rest)) standing_is
     ∙ ap (λ tail. standings ++ tail) (sym (front_stands view i clock wave none primary waves within clock_is wave_is))
     ∙ known
-
-pub standings_done : (view : View) (i : ℕ) (standings : List Standing) → length view.mode.clocks ≤ i
-    → StandingsSoFar view i standings → standings ≡ mode_standings [] view
-standings_done view i standings all known =
-    let e : drop i view.mode.clocks ≡ [] = drop_all i view.mode.clocks all in
-    let f : standings_from [] view.arrivals i (drop i view.mode.clocks) (drop i view.waves) ≡ [] = rw e refl in
-    sym (append-nil standings) ∙ ap (λ tail. standings ++ tail) (sym f) ∙ known

@@ -8,7 +8,7 @@ use Rattle.sdc_model.specs.declared.clocks.Clock.{Clock}
 use Rattle.sdc_model.specs.declared.clocks.Pair.{Pair}
 use Rattle.sdc_model.specs.declared.commands.Part.TheVariants as part
 use Rattle.sdc_model.specs.ClockFile.{SoFar, does, grouped, is_taken, with_groups}
-use Rattle.sdc_model.specs.ClockGroups.{Groups, before_brace, group_of, place_from, places_of}
+use Rattle.sdc_model.specs.ClockGroups.{Groups, group_of, place_from, places_of}
 use Rattle.sdc_model.specs.PrintedCommands.{word_of}
 use Rattle.sdc_model.specs.PlainViews.{without_line}
 use Rattle.sdc_model.specs.PrintedFile.{ArePairs, ArePrintableClocks, exclusive_to, group_line, group_lines, lines_of_group, name_of, names_at}
@@ -17,9 +17,8 @@ use Rattle.sdc_model.specs.Words.{is_text, same_text}
 use Rattle.sdc_print.proofs.ClockLines.{Goes, Said, goes_line, goes_none, goes_on}
 use Rattle.sdc_print.proofs.FileText.{AreFineLines, AreItems, IsItem, bare_spelled, items_braced, query_spelled, spelled_append}
 use Rattle.sdc_print.proofs.GroupPairs.{AreWithin, exclusive_within, groups_from, groups_of}
-use Rattle.sdc_print.proofs.PlainWords.{is_braced}
+use Rattle.sdc_print.proofs.ListBack.{list_braced, list_spaced}
 use Rattle.sdc_print.proofs.PrintedFacts.{name_item}
-use Rattle.sdc_print.proofs.WaveText.{items_spaced}
 
 -- the script of a query for names
 abbrev pub script_of : List (List ℕ) → List ℕ
@@ -27,17 +26,8 @@ script_of names = words_text (bare (codes "get_clocks") ∷ list_word names ∷ 
 
 -- ---- the names of a group
 
-no_closing : (b : ℕ) → is_braced b ≡ true → nat_eq b 125 ≡ false
-no_closing b h = grind (arith, nat_tests)
-
-before_closing : (text : List ℕ) → list_all is_braced text ≡ true → before_brace (text ++ 125 ∷ []) ≡ Some text
-before_closing [] h = refl
-before_closing (b ∷ bs) h =
-    let parts = and_parts (is_braced b) (list_all is_braced bs) h in
-    rw (no_closing b parts.0) (ap (option_and_then (λ (inner : List ℕ). Some (b ∷ inner))) (before_closing bs parts.1))
-
 group_is : (clocks : List Clock) (names : List (List ℕ)) → AreItems names → group_of clocks (part.Script (script_of names) ∷ []) ≡ places_of clocks names
-group_is clocks names a = rw (before_closing (spaced names) (items_braced names a), items_spaced names a) refl
+group_is clocks names a = rw (list_braced (spaced names) (items_braced names a), list_spaced names a) refl
 
 -- ---- the places of names
 

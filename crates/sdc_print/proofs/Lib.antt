@@ -8,6 +8,7 @@ pub mod GroupLines
 pub mod GroupLengths
 pub mod GroupPairs
 pub mod LineFacts
+pub mod ListBack
 pub mod PlainWords
 pub mod PrintableFacts
 pub mod PrintedFacts

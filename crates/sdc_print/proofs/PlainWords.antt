@@ -90,15 +90,15 @@ weaker_all p q weaker (b ∷ bs) h =
 
 -- ---- a bare word
 
-record Plain (b : ℕ) : Type 0 where
-  parts : (is_space b || is_end b) ≡ false
-  comment : (b == 35) ≡ false
-  backslash : (b == 92) ≡ false
-  substitutes : (b == 36 || b == 91) ≡ false
-  brace : (b == 123) ≡ false
-  quote : (b == 34) ≡ false
+pub record Plain (b : ℕ) : Type 0 where
+  pub parts : (is_space b || is_end b) ≡ false
+  pub comment : (b == 35) ≡ false
+  pub backslash : (b == 92) ≡ false
+  pub substitutes : (b == 36 || b == 91) ≡ false
+  pub brace : (b == 123) ≡ false
+  pub quote : (b == 34) ≡ false
 
-plain_byte : (b : ℕ) → is_plain b ≡ true → Plain b
+pub plain_byte : (b : ℕ) → is_plain b ≡ true → Plain b
 plain_byte b p = record {
   parts = grind (arith, nat_tests);
   comment = grind (arith, nat_tests);
@@ -137,13 +137,16 @@ plain_piece b bs p = rw (p.parts, p.backslash, p.substitutes) refl
 abbrev pub text_word : List ℕ → Word
 text_word text = record { parts = part.Text text ∷ [] }
 
-bare_piece : (b : ℕ) (bs rest : List ℕ) → Plain b → list_all is_plain bs ≡ true → may_follow rest ≡ true → grammar.piece_at grammar.bare (b ∷ (bs ++ rest)) ≡ found (grammar.text (b ∷ bs)) rest
-bare_piece b bs rest p all follows =
+-- a run of plain bytes ends where a word may
+pub bare_run : (b : ℕ) (bs rest : List ℕ) → list_all is_plain bs ≡ true → may_follow rest ≡ true → grammar.with_run grammar.bare (b ∷ []) (bs ++ rest) ≡ found (grammar.text (b ∷ bs)) rest
+bare_run b bs rest all follows =
     let self = weaker_all is_plain (grammar.is_itself grammar.bare) plain_itself bs all in
-    plain_piece b (bs ++ rest) p
-    ∙ (ap (λ (t : List ℕ). found (grammar.text (b ∷ t)) (behind (grammar.is_itself grammar.bare) (bs ++ rest)))
+    ap (λ (t : List ℕ). found (grammar.text (b ∷ t)) (behind (grammar.is_itself grammar.bare) (bs ++ rest)))
     (run_front (grammar.is_itself grammar.bare) bs rest self ∙ (ap (λ (t : List ℕ). bs ++ t) (follow_other rest follows) ∙ append-nil bs))
-    ∙ ap (λ (t : List ℕ). found (grammar.text (b ∷ bs)) t) (run_behind (grammar.is_itself grammar.bare) bs rest self ∙ follow_behind rest follows))
+    ∙ ap (λ (t : List ℕ). found (grammar.text (b ∷ bs)) t) (run_behind (grammar.is_itself grammar.bare) bs rest self ∙ follow_behind rest follows)
+
+bare_piece : (b : ℕ) (bs rest : List ℕ) → Plain b → list_all is_plain bs ≡ true → may_follow rest ≡ true → grammar.piece_at grammar.bare (b ∷ (bs ++ rest)) ≡ found (grammar.text (b ∷ bs)) rest
+bare_piece b bs rest p all follows = plain_piece b (bs ++ rest) p ∙ bare_run b bs rest all follows
 
 bare_stands : (b : ℕ) (bs rest : List ℕ) → Plain b → list_all is_plain bs ≡ true → may_follow rest ≡ true → StandsWord (b ∷ (bs ++ rest)) (found (text_word (b ∷ bs)) rest)
 bare_stands b bs rest p all follows =
@@ -181,17 +184,17 @@ inside_close : (bs : List ℕ) (outer : List Open) (begins : Bool) → behind_op
 unfolding behind_open
 inside_close bs outer begins = refl
 
-inside_all : (text rest : List ℕ) (outer : List Open) (begins : Bool) → list_all is_braced text ≡ true → behind_open (brace ∷ outer) begins false (text ++ 125 ∷ rest) ≡ behind_open outer false false rest
+pub inside_all : (text rest : List ℕ) (outer : List Open) (begins : Bool) → list_all is_braced text ≡ true → behind_open (brace ∷ outer) begins false (text ++ 125 ∷ rest) ≡ behind_open outer false false rest
 inside_all [] rest outer begins h = inside_close rest outer begins
 inside_all (b ∷ bs) rest outer begins h =
     let parts = and_parts (is_braced b) (list_all is_braced bs) h in
     inside_step b (bs ++ 125 ∷ rest) outer begins (inside_byte b parts.0) ∙ inside_all bs rest outer (leads_word b) parts.1
 
-all_closed : (rest : List ℕ) → behind_open [] false false rest ≡ Some rest
+pub all_closed : (rest : List ℕ) → behind_open [] false false rest ≡ Some rest
 unfolding behind_open
 all_closed rest = refl
 
-before_is : (text rest : List ℕ) → before (text ++ rest) rest ≡ text
+pub before_is : (text rest : List ℕ) → before (text ++ rest) rest ≡ text
 before_is text rest =
     let n : length (text ++ rest) - length rest ≡ length text = omega (arith, length-append text rest) in
     ap (λ (k : ℕ). take k (text ++ rest)) n ∙ take_at text rest (length text) refl
@@ -222,13 +225,17 @@ first : (b : ℕ) (bs : List ℕ) → Inside b → grammar.piece_at grammar.brac
 unfolding grammar.piece_at
 first b bs p = rw p.backslash refl
 
+-- a run of bytes that stand in braces here ends where the text does
+pub inner_run : (b : ℕ) (bs : List ℕ) → list_all is_braced bs ≡ true → grammar.with_run grammar.braced (b ∷ []) bs ≡ found (grammar.text (b ∷ bs)) []
+inner_run b bs h =
+    let self = weaker_all is_braced (grammar.is_itself grammar.braced) braced_itself bs h in
+    ap (λ (t : List ℕ). found (grammar.text (b ∷ t)) (behind (grammar.is_itself grammar.braced) bs)) (whole_front bs self)
+    ∙ ap (λ (t : List ℕ). found (grammar.text (b ∷ bs)) t) (whole_behind bs self)
+
 inner_piece : (b : ℕ) (bs : List ℕ) → list_all is_braced (b ∷ bs) ≡ true → grammar.piece_at grammar.braced (b ∷ bs) ≡ found (grammar.text (b ∷ bs)) []
 inner_piece b bs h =
     let parts = and_parts (is_braced b) (list_all is_braced bs) h in
-    let self = weaker_all is_braced (grammar.is_itself grammar.braced) braced_itself bs parts.1 in
-    first b bs (inside_byte b parts.0)
-    ∙ (ap (λ (t : List ℕ). found (grammar.text (b ∷ t)) (behind (grammar.is_itself grammar.braced) bs)) (whole_front bs self)
-    ∙ ap (λ (t : List ℕ). found (grammar.text (b ∷ bs)) t) (whole_behind bs self))
+    first b bs (inside_byte b parts.0) ∙ inner_run b bs parts.1
 
 no_more : (bs : List ℕ) → grammar.piece_at grammar.braced [] ≡ stops (Ok [])
 unfolding grammar.piece_at
@@ -285,9 +292,6 @@ query_closes names rest h =
     ap behind_bracket (query_text names rest)
     ∙ (query_passed (names ++ 125 ∷ (93 ∷ rest)) ∙ (inside_all names (93 ∷ rest) (bracket ∷ []) false h ∙ bracket_close rest))
 
-no_index : (names : List ℕ) → grammar.script_piece (query_script names) ≡ grammar.other (part.Script (query_script names))
-no_index names = refl
-
 bracket_piece : (bs : List ℕ) → grammar.piece_at grammar.bare (91 ∷ bs) ≡ grammar.behind_opening bs (behind_bracket bs)
 unfolding grammar.piece_at
 bracket_piece bs = refl
@@ -299,7 +303,7 @@ query_piece : (names rest : List ℕ) → list_all is_braced names ≡ true → 
 query_piece names rest h =
     bracket_piece (query_script names ++ 93 ∷ rest)
     ∙ (ap (grammar.behind_opening (query_script names ++ 93 ∷ rest)) (query_closes names rest h)
-    ∙ ap (λ (p : grammar.Piece). found p rest) (ap grammar.script_piece (before_is (query_script names) (93 ∷ rest)) ∙ no_index names))
+    ∙ ap (λ (t : List ℕ). found (grammar.other (part.Script t)) rest) (before_is (query_script names) (93 ∷ rest)))
 
 bracket_gap : (bs : List ℕ) → behind_gap false (91 ∷ bs) ≡ 91 ∷ bs
 unfolding behind_gap

@@ -1,4 +1,4 @@
--- The texts of a printed clock, read again: the items of a list, its times and its waveform.
+-- The texts of a printed clock, read again: its times and its waveform.
 use Rattle.std.proofs.Common.{◌≡◌, ◌<◌, ◌≤◌, ◌+◌, ◌-◌, ◌%◌, ◌^◌, ℕ, ℤ, pos, negsuc, true, false, List, [], ◌∷◌, ◌++◌, length, nat_lt, nat_le, Some, Result, refl, sym, ◌∙◌, ap, inr, arith, append-nil}
 use Rattle.std.proofs.lemmas.Bool.{and_parts}
 use Rattle.std.proofs.lemmas.Bool.Decides.{nat_tests}
@@ -13,41 +13,13 @@ use Rattle.sdc_base.specs.NumberLaws.{IsTimeText, ReadsBack, is_time_byte}
 use Rattle.sdc_base.specs.Time.{time_text_of}
 use Rattle.sdc_base.proofs.ReadBackFacts.{time_text_plain, time_text_reads_back}
 use Rattle.sdc_model.specs.declared.clocks.Wave.{Wave}
-use Rattle.sdc_model.specs.Bytes.{is_blank}
 use Rattle.sdc_model.specs.ClockFile.{wave_given}
-use Rattle.sdc_model.specs.Items.{Parted, all_items, items, parted}
 use Rattle.sdc_model.specs.PrintedFile.{IsPrintableWave}
 use Rattle.sdc_model.specs.PrintedLine.{spaced}
 use Rattle.sdc_model.specs.Waveform.{nanoseconds, time_from, time_in, limited_time, wave_of, wave_within, waveform_of}
 use Rattle.sdc_print.proofs.FileText.{AreItems, IsItem, all_pass}
+use Rattle.sdc_print.proofs.ListBack.{list_spaced}
 use Rattle.sdc_print.proofs.PlainWords.{is_plain}
-
-plain_not_blank : (b : ℕ) → is_plain b ≡ true → is_blank b ≡ false
-plain_not_blank b p = grind (arith, nat_tests)
-
-plain_run : (text rest : List ℕ) → list_all is_plain text ≡ true → parted (text ++ rest) ≡ record { first = text ++ (parted rest).first; others = (parted rest).others }
-plain_run [] rest h = refl
-plain_run (b ∷ bs) rest h =
-    let parts = and_parts (is_plain b) (list_all is_plain bs) h in
-    rw (plain_not_blank b parts.0)
-    (ap (λ (p : Parted). let q : Parted = record { first = b ∷ p.first; others = p.others } in q) (plain_run bs rest parts.1))
-
-all_items_some : (first : List ℕ) (others : List (List ℕ)) → 0 < length first → all_items first others ≡ first ∷ others
-all_items_some [] others h = absurd (omega arith)
-all_items_some (b ∷ bs) others h = refl
-
--- the items of a text behind which a list of items stands
-item_run : (text rest : List ℕ) (others : List (List ℕ)) → IsItem text → (parted rest).first ≡ [] → (parted rest).others ≡ others → items (text ++ rest) ≡ text ∷ others
-item_run text rest others item e f =
-    ap (λ (p : Parted). all_items p.first p.others) (plain_run text rest item.plain)
-    ∙ (ap (λ (x : List ℕ). all_items (text ++ x) (parted rest).others) e
-    ∙ (ap (λ (x : List ℕ). all_items x (parted rest).others) (append-nil text)
-    ∙ (all_items_some text (parted rest).others item.some ∙ ap (λ (o : List (List ℕ)). text ∷ o) f)))
-
-pub items_spaced : (texts : List (List ℕ)) → AreItems texts → items (spaced texts) ≡ texts
-items_spaced [] a = refl
-items_spaced (text ∷ []) a = ap items (sym (append-nil text)) ∙ item_run text [] [] a.0 refl refl
-items_spaced (text ∷ next ∷ texts) a = item_run text (32 ∷ spaced (next ∷ texts)) (next ∷ texts) a.0 refl (items_spaced (next ∷ texts) a.1)
 
 -- ---- times and waveforms
 
@@ -78,7 +50,7 @@ wave_text_back p r f a b c d e g items =
     let rise = time_text_of (pos r) ns in
     let fall = time_text_of (pos f) ns in
     ap (option_and_then (λ (time : ℕ). waveform_of time (spaced (rise ∷ fall ∷ [])))) (time_back 2 p a b)
-    ∙ (ap (wave_of p) (items_spaced (rise ∷ fall ∷ []) items)
+    ∙ (ap (option_and_then (wave_of p)) (list_spaced (rise ∷ fall ∷ []) items)
     ∙ (ap (option_and_then (λ (rise_time : ℕ). option_and_then (wave_within p rise_time) (time_from 0 fall))) (time_back 0 r (omega arith) (omega arith))
     ∙ (ap (option_and_then (wave_within p r)) (time_back 0 f (omega arith) g) ∙ wave_kept p r f c d e)))
 

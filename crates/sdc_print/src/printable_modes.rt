@@ -147,7 +147,8 @@ fn is_held(clocks: &List<Clock>, name: &str) -> bool
         .any(|clock| clock.name.as_str() == name)
 }
 
-fn pairs_of(alloc: Global, pairs: &[(u32, u32)]) -> Result<List<Pair>, NoMemory> {
+/// Pairs of places, the lesser one first.
+pub fn pairs_of(alloc: Global, pairs: &[(u32, u32)]) -> Result<List<Pair>, NoMemory> {
     let mut list = List::new(alloc);
     for (first, second) in pairs.iter().copied() {
         list.push(Pair { first, second })?;

@@ -1,6 +1,6 @@
 //! The printed file.
 
-ghost use Rattle.std.specs.Prelude.{◌≡◌, IfOk, OnOk, length};
+ghost use Rattle.std.specs.Prelude.{◌≡◌, ◌+◌, IfOk, OnOk, length};
 ghost use Rattle.sdc_base.specs.Time.{IsUnit};
 ghost use Rattle.sdc_model.specs.PrintedLine.{lines_text};
 ghost use Rattle.sdc_model.specs.PrintedFile.{IsPrintable, header_lines, printed_file, unit_text};
@@ -21,40 +21,41 @@ pub fn print(alloc: Global, design: &Design, mode: &Mode) -> Result<List<u8>, No
     ensures { IfOk result (λ text. text ≡ printed_file design.now mode.now) }
 {
     let mut out = Sink::Bytes(List::new(alloc));
-    push_file(&mut out, alloc, design, mode)?;
+    push_file(&mut out, design, mode)?;
     match out {
         Sink::Bytes(bytes) => Ok(bytes),
         Sink::Count(_) => unreachable!(),
     }
 }
 
-/// The number of bytes of that file, which is not made: the memory that is taken is that of one time's text. The
-/// one error is want of memory, and that is also the answer where the number passes 64 bits.
-pub fn printed_length(alloc: Global, design: &Design, mode: &Mode) -> Result<u64, NoMemory>
+/// The number of bytes of that file, which is not made. No memory is taken: the one error, want of memory, is the
+/// answer where the number passes 64 bits.
+pub fn printed_length(design: &Design, mode: &Mode) -> Result<u64, NoMemory>
     requires { IsPrintable design.now mode.now }
     ensures { IfOk result (λ count. count ≡ length (printed_file design.now mode.now)) }
 {
     let mut out = Sink::Count(0);
-    push_file(&mut out, alloc, design, mode)?;
+    push_file(&mut out, design, mode)?;
     match out {
         Sink::Count(count) => Ok(count),
         Sink::Bytes(_) => unreachable!(),
     }
 }
 
-/// The number of bytes of the line that makes a clock and the second ones of some pairs exclusive, which is not made;
-/// 0 where there are no pairs. The file of a mode is that of its clocks alone, then such a line for each clock, with
-/// the pairs of which it is the first. The one error is want of memory, and that is also the answer where the number
-/// passes 64 bits.
-pub fn group_length(
+/// The number of bytes of a front, and of the line behind it that makes a clock and the second ones of some pairs
+/// exclusive. The line is not made, and there is none where there are no pairs. The file of a mode is that of its
+/// clocks alone, then such a line for each clock, with the pairs of which it is the first. No memory is taken: the
+/// one error, want of memory, is the answer where the number passes 64 bits.
+pub fn length_with_group(
+    front: u64,
     clock: &Clock,
     clocks: &List<Clock>,
     pairs: &List<Pair>,
 ) -> Result<u64, NoMemory>
     ensures { IfOk result
-        (λ count. count ≡ length (group_text clock.now.name clocks.now pairs.now)) }
+        (λ count. count ≡ front + length (group_text clock.now.name clocks.now pairs.now)) }
 {
-    let mut out = Sink::Count(0);
+    let mut out = Sink::Count(front);
     push_group(&mut out, clock.name.as_bytes(), clocks, pairs.as_slice())?;
     match out {
         Sink::Count(count) => Ok(count),
@@ -63,12 +64,12 @@ pub fn group_length(
 }
 
 /// Adds the file.
-fn push_file(out: &mut Sink, alloc: Global, design: &Design, mode: &Mode) -> Result<(), NoMemory>
+fn push_file(out: &mut Sink, design: &Design, mode: &Mode) -> Result<(), NoMemory>
     requires { IsPrintable design.now mode.now }
     ensures { OnOk result (out.new ≡ added out.old (printed_file design.now mode.now)) }
 {
     push_header(out, design.unit)?;
-    push_clocks(out, alloc, design.unit, &mode.clocks)?;
+    push_clocks(out, design.unit, &mode.clocks)?;
     push_groups(out, &mode.clocks, &mode.exclusive)?;
     Ok(())
 }

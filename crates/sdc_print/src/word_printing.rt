@@ -7,8 +7,7 @@ ghost use Rattle.sdc_model.specs.PrintedLine.{is_bare_byte, is_bare_text, spelle
 ghost use Rattle.sdc_print.specs.Added.{added};
 
 use crate::sinks::Sink;
-use sdc_base::{NoMemory, time_text};
-use std::alloc::Global;
+use sdc_base::{NoMemory, TimeBuffer};
 
 /// Adds a name that stands outside a list: bare where it may stand so, else in braces.
 pub fn push_name(out: &mut Sink, name: &[u8]) -> Result<(), NoMemory>
@@ -48,11 +47,11 @@ fn may_stand_bare(byte: u8) -> bool
 }
 
 /// Adds a time in femtoseconds as its number of units, `unit` being a unit in femtoseconds.
-pub fn push_time(out: &mut Sink, alloc: Global, unit: i64, time: i64) -> Result<(), NoMemory>
+pub fn push_time(out: &mut Sink, unit: i64, time: i64) -> Result<(), NoMemory>
     requires { IsUnit unit }
     ensures { OnOk result (out.new ≡ added out.old (time_text_of time unit)) }
 {
-    let text = time_text(alloc, time, unit)?;
-    out.push(text.as_bytes())?;
+    let mut buffer = TimeBuffer::new();
+    out.push(buffer.format(time, unit))?;
     Ok(())
 }

@@ -15,12 +15,12 @@ use Rattle.sdc_model.specs.Enclosed.{behind_bracket}
 use Rattle.sdc_model.specs.Pieces as grammar
 use Rattle.sdc_model.specs.Row.{found, stops}
 use Rattle.tcl_words.specs.declared.pieces.Kind.{Kind}
-use Rattle.tcl_words.specs.declared.pieces.Kind.TheVariants.{Variable}
+use Rattle.tcl_words.specs.declared.pieces.Kind.TheVariants.{Script, Variable}
 use Rattle.tcl_words.specs.declared.pieces.Step.{Step}
 use Rattle.tcl_words.specs.declared.pieces.Step.TheVariants.{Found}
 use Rattle.tcl_words.specs.Nests.{ClosesAt}
 use Rattle.tcl_words.specs.Spans.{Keeps, LeadsTo}
-use Rattle.tcl_words.specs.Steps.{StepAt, between, of_kind}
+use Rattle.tcl_words.specs.Steps.{StepAt, between}
 use Rattle.tcl_words.proofs.RunFacts.{drop_all}
 use Rattle.tcl_words.proofs.PieceFacts.{between_more, between_none, byte_at, front_between, here, itself, keeps_behind}
 
@@ -146,10 +146,10 @@ inside_is text from next less within =
     let n : length (drop from text) - length (93 ∷ drop next text) ≡ next - 1 - from = omega (arith, less, within, length-drop from text, length-drop next text) in
     ap (λ (k : ℕ). take k (drop from text)) n
 
-pub script_closed : (text : List ℕ) (at next : ℕ) (kind : Kind) → at < length text → get_or text at 0 < 128 → ClosesAt text (at + 1) next (behind_bracket (drop (at + 1) text)) → of_kind kind (between text (at + 1) (next - 1)) ≡ grammar.script_piece (between text (at + 1) (next - 1)) → StepAt (grammar.behind_opening (drop (at + 1) text) (behind_bracket (drop (at + 1) text))) text at (Ok (Found (record { kind = kind; from = at + 1; to = next - 1; next = next })))
-script_closed text at next kind within small c e = (
+pub script_closed : (text : List ℕ) (at next : ℕ) → at < length text → get_or text at 0 < 128 → ClosesAt text (at + 1) next (behind_bracket (drop (at + 1) text)) → StepAt (grammar.behind_opening (drop (at + 1) text) (behind_bracket (drop (at + 1) text))) text at (Ok (Found (record { kind = Script; from = at + 1; to = next - 1; next = next })))
+script_closed text at next within small c = (
   ap (grammar.behind_opening (drop (at + 1) text)) c.is
-      ∙ ap (λ (p : grammar.Piece). found p (drop next text)) (ap grammar.script_piece (inside_is text (at + 1) next c.forward c.within) ∙ sym e),
+      ∙ ap (λ (script : List ℕ). found (grammar.other (part.Script script)) (drop next text)) (inside_is text (at + 1) next c.forward c.within),
   record {
     forward = omega (arith, c.forward);
     within = c.within;

@@ -1,13 +1,11 @@
--- That the grammar of lists has one outcome for a text, and some. This project's own rule of reading it.
--- So a fault is answered exactly where the grammar has nothing else.
-use Rattle.std.specs.Prelude.{◌≡◌, ℕ, List, Result}
+-- That the grammar of lists relates one outcome to a text, which the reading of the text gives. This project's own rule.
+-- So a text always has items or a first fault and never both, and a fault is answered exactly where the grammar has
+-- nothing else.
+use Rattle.std.specs.Prelude.{◌≡◌, ◌↔◌, ℕ, List, Result}
 use Rattle.sdc_model.specs.declared.kinds.TclKind.{TclKind}
 use Rattle.sdc_model.specs.ListItems.{Lists}
+use Rattle.sdc_model.specs.ListReading.{list_of}
 
--- two outcomes of a text are one
-abbrev pub HasOneList : List ℕ → Type 0
-HasOneList text = (r s : Result (List (List ℕ)) TclKind) → Lists text r → Lists text s → r ≡ s
-
--- a text has an outcome
-abbrev pub IsListOrFault : List ℕ → Type 0
-IsListOrFault text = (r : Result (List (List ℕ)) TclKind) × Lists text r
+-- what the grammar relates to a text is what it is read as
+abbrev pub IsReadAlone : List ℕ → Type 0
+IsReadAlone text = (outcome : Result (List (List ℕ)) TclKind) → Lists text outcome ↔ (list_of text ≡ outcome)

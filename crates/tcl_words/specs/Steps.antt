@@ -6,7 +6,7 @@ use Rattle.sdc_model.specs.declared.kinds.TclKind.{TclKind}
 use Rattle.sdc_model.specs.Pieces as grammar
 use Rattle.sdc_model.specs.Row.{found, stops}
 use Rattle.tcl_words.specs.declared.pieces.Kind.{Kind}
-use Rattle.tcl_words.specs.declared.pieces.Kind.TheVariants.{Blank, Index, Newline, Script, Tab, Text, Variable}
+use Rattle.tcl_words.specs.declared.pieces.Kind.TheVariants.{Blank, Newline, Script, Tab, Text, Variable}
 use Rattle.tcl_words.specs.declared.pieces.Piece.{Piece}
 use Rattle.tcl_words.specs.declared.pieces.Step.{Step}
 use Rattle.tcl_words.specs.declared.pieces.Step.TheVariants.{Ends, Found}
@@ -24,7 +24,6 @@ of_kind Text bytes = grammar.text bytes
 of_kind Newline bytes = grammar.text (10 ∷ [])
 of_kind Tab bytes = grammar.text (9 ∷ [])
 of_kind Blank bytes = grammar.text (32 ∷ [])
-of_kind Index script = grammar.text (91 ∷ (script ++ 93 ∷ []))
 of_kind Variable name = grammar.other (part.Variable name)
 of_kind Script script = grammar.other (part.Script script)
 

@@ -1,6 +1,6 @@
 //! The parts of a word, gathered from its pieces.
 
-ghost use Rattle.std.specs.Prelude.{◌≡◌, ◌≤◌, ◌++◌, ◌∷◌, [], length, IfOk, OnOk};
+ghost use Rattle.std.specs.Prelude.{◌≡◌, ◌≤◌, length, IfOk, OnOk};
 ghost use Rattle.std.specs.Str.{IsCharBoundary};
 ghost use Rattle.sdc_model.specs.Pieces as grammar;
 ghost use Rattle.sdc_model.specs.WordParts.{all_parts, with_piece, with_text, word_of};
@@ -44,7 +44,6 @@ impl Gathered {
             Kind::Newline => self.add_text("\n")?,
             Kind::Tab => self.add_text("\t")?,
             Kind::Blank => self.add_text(" ")?,
-            Kind::Index => self.add_index(bytes)?,
             Kind::Variable => {
                 let name = Text::from_str(alloc, bytes)?;
                 self.add_part(alloc, Part::Variable(name))?;
@@ -62,16 +61,6 @@ impl Gathered {
         ensures { OnOk result (gathered_of self.new ≡ with_piece (gathered_of self.old) (grammar.text more.now)) }
     {
         self.pending.push_str(more)?;
-        Ok(())
-    }
-
-    /// Adds an index in its brackets. The one error is want of memory.
-    fn add_index(&mut self, index: &str) -> Result<(), NoMemory>
-        ensures { OnOk result (gathered_of self.new ≡ with_piece (gathered_of self.old) (grammar.text (91 ∷ (index.now ++ 93 ∷ [])))) }
-    {
-        self.pending.push_str("[")?;
-        self.pending.push_str(index)?;
-        self.pending.push_str("]")?;
         Ok(())
     }
 

@@ -57,11 +57,6 @@ pub fn add_piece(item: &mut Text, text: &str, piece: Piece) -> Result<(), NoMemo
         Kind::Newline => item.push_str("\n")?,
         Kind::Tab => item.push_str("\t")?,
         Kind::Blank => item.push_str(" ")?,
-        Kind::Index => {
-            item.push_str("[")?;
-            item.push_str(bytes)?;
-            item.push_str("]")?;
-        }
         Kind::Variable | Kind::Script => {}
     }
     Ok(())

@@ -4,13 +4,12 @@
 ghost use Rattle.std.specs.Prelude.{List, ℕ, Ok};
 ghost use Rattle.sdc_model.specs.ListItems.{Lists};
 ghost use Rattle.sdc_model.specs.ListText.{list_text};
-ghost use Rattle.tcl_words.specs.ListLaws.{HasOneList, IsListOrFault};
+ghost use Rattle.tcl_words.specs.ListLaws.{IsReadAlone};
 
-/// A text has one list of items or one first fault, one of them always and never both. So a fault stands exactly
-/// where the grammar has nothing else.
+/// A text has one list of items or one first fault, one of them always and never both: what `list_of` of `sdc_model`
+/// gives. So a fault stands exactly where the grammar has nothing else.
 pub fn list_is_one()
-    ensures one { (text : List ℕ) → HasOneList text }
-    ensures some { (text : List ℕ) → IsListOrFault text }
+    ensures { (text : List ℕ) → IsReadAlone text }
 {}
 
 /// The items of the text that a list was made of are the items that it was made of.

@@ -75,7 +75,7 @@ pub fn variable_operand(alloc: Global, text: &str, from: usize) -> Result<Spelle
     match piece_at(alloc, text.as_bytes(), from, Form::Bare) {
         Ok(Step::Found(piece)) => match piece.kind {
             Kind::Variable | Kind::Script => one_piece(alloc, text, piece),
-            Kind::Text | Kind::Newline | Kind::Tab | Kind::Blank | Kind::Index => {
+            Kind::Text | Kind::Newline | Kind::Tab | Kind::Blank => {
                 Err(Stop::Refused(TclKind::BadExpr))
             }
         },
@@ -84,8 +84,7 @@ pub fn variable_operand(alloc: Global, text: &str, from: usize) -> Result<Spelle
     }
 }
 
-/// The script whose `[` stands at a place, as an operand; an index is one as it is written. Refused as `BadExpr` where
-/// the bracket has no end.
+/// The script whose `[` stands at a place, as an operand. Refused as `BadExpr` where the bracket has no end.
 #[tactic(auto, using(crate::proofs::OperandFacts::script_found, crate::proofs::OperandFacts::script_ends, crate::proofs::OperandFacts::script_stop))]
 pub fn script_operand(alloc: Global, text: &str, from: usize) -> Result<Spelled, Stop<TclKind>>
     requires within { from < length text.now }

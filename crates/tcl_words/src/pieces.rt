@@ -25,8 +25,6 @@ pub enum Kind {
     Newline,
     Tab,
     Blank,
-    /// The bytes in brackets
-    Index,
     /// The variable of this name
     Variable,
     /// The value of this script

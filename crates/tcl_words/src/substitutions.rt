@@ -1,12 +1,11 @@
 //! The substitutions that a word is made of: variables and scripts.
 
 ghost use Rattle.std.specs.Prelude.{◌≡◌, ◌<◌, ◌+◌, true, length, drop, slice_index};
-ghost use Rattle.std.specs.List.{list_all};
 ghost use Rattle.sdc_base.specs.Gives.{Meets};
-ghost use Rattle.sdc_model.specs.Bytes.{begins_with, behind, front, is_name_byte, is_index_byte as index_byte};
+ghost use Rattle.sdc_model.specs.Bytes.{begins_with, behind, front, is_name_byte};
 ghost use Rattle.sdc_model.specs.Enclosed.{behind_bracket};
 ghost use Rattle.sdc_model.specs.Pieces as grammar;
-ghost use Rattle.tcl_words.specs.Steps.{of_kind, StepAt};
+ghost use Rattle.tcl_words.specs.Steps.{StepAt};
 
 use crate::enclosed::{Open, closing};
 use crate::pieces::{Kind, Piece, Step, itself};
@@ -82,8 +81,8 @@ fn braced_variable(bytes: &[u8], at: usize) -> Result<Step, Stop<TclKind>>
     }))
 }
 
-/// The script at the place of a `[`; one that is an index is as it is written.
-#[tactic(auto, using(crate::proofs::SubstitutionFacts::script_unclosed, crate::proofs::SubstitutionFacts::script_closed))]
+/// The script at the place of a `[`.
+#[tactic(auto, using(crate::proofs::SubstitutionFacts::script_unclosed))]
 fn script(alloc: Global, bytes: &[u8], at: usize) -> Result<Step, Stop<TclKind>>
     requires within { at < length bytes.now }
     requires small { slice_index bytes.now at < 128 }
@@ -92,43 +91,10 @@ fn script(alloc: Global, bytes: &[u8], at: usize) -> Result<Step, Stop<TclKind>>
     let Some(next) = closing(alloc, bytes, at + 1, Open::Bracket)? else {
         return Err(Stop::Refused(TclKind::Unclosed));
     };
-    let to = next - 1;
-    let kind = script_kind(&bytes[at + 1..to]);
     Ok(Step::Found(Piece {
-        kind,
+        kind: Kind::Script,
         from: at + 1,
-        to,
+        to: next - 1,
         next,
     }))
-}
-
-/// What a script is: one that is an index is no script.
-fn script_kind(script: &[u8]) -> Kind
-    ensures { of_kind result script.now ≡ grammar.script_piece script.now }
-{
-    if is_index(script) {
-        return Kind::Index;
-    }
-    Kind::Script
-}
-
-/// Whether a script is an index: digits, `*`, `?` and `:`, at least one.
-fn is_index(script: &[u8]) -> bool
-    ensures { result ≡ grammar.is_index script.now }
-{
-    !script.is_empty() && are_index(script)
-}
-
-/// Whether all bytes are parts of an index.
-fn are_index(script: &[u8]) -> bool
-    ensures { result ≡ list_all index_byte script.now }
-{
-    script.iter().all(|byte| is_index_byte(*byte))
-}
-
-/// Whether a byte is a part of an index.
-fn is_index_byte(byte: u8) -> bool
-    ensures { result ≡ index_byte byte }
-{
-    byte.is_ascii_digit() || matches!(byte, b'*' | b'?' | b':')
 }

@@ -55,7 +55,7 @@ fn operands_and_blanks(rt: HostRuntime) -> Result<(), Fail> {
         ("\"a $b [c]\\n\"", "'a '$b' '[c]'\n'"),
         ("{a $b [c]\\n}", "'a $b [c]\\n'"),
         ("${a b}", "$a b"),
-        ("[3] eq [*]", "'[3]' '[*]' TextEqual"),
+        ("[3] eq [*]", "[3] [*] TextEqual"),
         ("[x {]} \"]\" [y]]", "[x {]} \"]\" [y]]"),
         ("\n1\t+\r\n2 ", "1 2 Add"),
         ("1 \\\n + \\\r\n\t2", "1 2 Add"),

@@ -1,0 +1,144 @@
+-- Lists that are printed, read again: names and times with a blank between each two, and a list in braces.
+use Rattle.std.proofs.Common.{◌≡◌, ◌<◌, ◌≤◌, ◌+◌, ◌==◌, ◌&&◌, ◌++◌, ℕ, zero, suc, true, false, List, [], ◌∷◌, Option, Some, Ok, Result, length, length-append, refl, sym, ap, ◌∙◌, arith, append-nil}
+use Rattle.std.proofs.lemmas.Bool.{and_parts}
+use Rattle.std.proofs.lemmas.Bool.Decides.{nat_tests}
+use Rattle.std.specs.List.{list_all}
+use Rattle.std.specs.Result.{result_ok}
+use Rattle.sdc_model.specs.declared.kinds.TclKind.{TclKind}
+use Rattle.sdc_model.specs.Bytes.{before}
+use Rattle.sdc_model.specs.Commands.{may_follow}
+use Rattle.sdc_model.specs.Continued.{continues}
+use Rattle.sdc_model.specs.Enclosed.{behind_brace}
+use Rattle.sdc_model.specs.ListItems.{ItemFront, behind_parting, ended_bare_item, ended_closed_item, form_by, item_piece_at, parts_items}
+use Rattle.sdc_model.specs.ListReading.{ItemPieces, braced_item, by_item, by_piece, item_at, item_of, items_in, items_of, list_of, pieces_in, pieces_of, with_item}
+use Rattle.sdc_model.specs.Pieces as grammar
+use Rattle.sdc_model.specs.PrintedLine.{spaced}
+use Rattle.sdc_model.specs.Row.{found, stops}
+use Rattle.sdc_print.proofs.FileText.{AreItems, IsItem}
+use Rattle.sdc_print.proofs.PlainWords.{Plain, all_closed, before_is, bare_run, inner_run, inside_all, is_braced, is_plain, plain_byte}
+
+-- ---- a bare item
+
+plain_parts : (b : ℕ) → is_plain b ≡ true → parts_items b ≡ false
+plain_parts b p = grind (arith, nat_tests)
+
+-- what may stand behind an item here: nothing, or a blank
+abbrev Ended : List ℕ → Type 0
+Ended rest = (may_follow rest ≡ true) × (item_piece_at grammar.bare rest ≡ stops (Ok rest))
+
+at_end : Ended []
+unfolding item_piece_at
+at_end = (refl, refl)
+
+before_blank : (rest : List ℕ) → Ended (32 ∷ rest)
+unfolding item_piece_at
+before_blank rest = (refl, refl)
+
+plain_piece : (b : ℕ) (bs : List ℕ) → is_plain b ≡ true → item_piece_at grammar.bare (b ∷ bs) ≡ grammar.with_run grammar.bare (b ∷ []) bs
+unfolding item_piece_at
+plain_piece b bs p = rw (plain_parts b p, (plain_byte b p).backslash) refl
+
+abbrev ended_bare : ItemPieces → ItemFront
+ended_bare read = ended_bare_item read.pieces read.end
+
+bare_item : (b : ℕ) (bs rest : List ℕ) → is_plain b ≡ true → list_all is_plain bs ≡ true → Ended rest → item_of grammar.bare b (bs ++ rest) ≡ found (b ∷ bs) rest
+bare_item b bs rest p all ends =
+    let n : ℕ = length (bs ++ rest) in
+    let first : item_piece_at grammar.bare (b ∷ (bs ++ rest)) ≡ found (grammar.text (b ∷ bs)) rest = plain_piece b (bs ++ rest) p ∙ bare_run b bs rest all ends.0 in
+    ap (λ (f : grammar.PieceFront). ended_bare (by_piece f (pieces_in (suc n) grammar.bare))) first
+    ∙ (ap (λ (f : grammar.PieceFront). ended_bare (by_piece (found (grammar.text (b ∷ bs)) rest) (λ place. by_piece f (pieces_in n grammar.bare)))) ends.1
+    ∙ ap (λ (t : List ℕ). found t rest) (append-nil (b ∷ bs)))
+
+plain_form : (b : ℕ) → Plain b → form_by b ≡ grammar.bare
+plain_form b p = rw (p.brace, p.quote) refl
+
+plain_start : (b : ℕ) (bs : List ℕ) → is_plain b ≡ true → behind_parting (b ∷ bs) ≡ b ∷ bs
+unfolding behind_parting
+plain_start b bs p = rw (plain_parts b p, (plain_byte b p).backslash) refl
+
+-- an item, and the list behind it
+item_more : (n : ℕ) (text rest : List ℕ) → IsItem text → Ended rest → items_in (suc n) (text ++ rest) ≡ with_item text (items_in n rest)
+item_more n [] rest item ends = absurd (omega (arith, item.some))
+item_more n (b ∷ bs) rest item ends =
+    let parts = and_parts (is_plain b) (list_all is_plain bs) item.plain in
+    ap (λ (place : List ℕ). by_item (item_at place) (items_in n)) (plain_start b (bs ++ rest) parts.0)
+    ∙ (ap (λ (form : grammar.Form). by_item (item_of form b (bs ++ rest)) (items_in n)) (plain_form b (plain_byte b parts.0))
+    ∙ ap (λ (f : ItemFront). by_item f (items_in n)) (bare_item b bs rest parts.0 parts.1 ends))
+
+-- ---- items with blanks between them
+
+none_left : (n : ℕ) → items_in (suc n) [] ≡ Ok []
+unfolding behind_parting
+none_left n = refl
+
+behind_blank : (n : ℕ) (rest : List ℕ) → items_in (suc n) (32 ∷ rest) ≡ items_in (suc n) rest
+unfolding behind_parting
+behind_blank n rest = refl
+
+spaced_items : (n : ℕ) (texts : List (List ℕ)) → AreItems texts → length texts ≤ n → items_in (suc n) (spaced texts) ≡ Ok texts
+spaced_items n [] a h = none_left n
+spaced_items zero (text ∷ texts) a h = absurd (omega (arith, h))
+spaced_items (suc m) (text ∷ []) a h =
+    ap (items_in (suc (suc m))) (sym (append-nil text)) ∙ (item_more (suc m) text [] a.0 at_end ∙ ap (with_item text) (none_left m))
+spaced_items (suc m) (text ∷ next ∷ texts) a h =
+    item_more (suc m) text (32 ∷ spaced (next ∷ texts)) a.0 (before_blank (spaced (next ∷ texts)))
+    ∙ ap (with_item text) (behind_blank m (spaced (next ∷ texts)) ∙ spaced_items m (next ∷ texts) a.1 (omega (arith, h)))
+
+-- there are no more items than bytes
+few_items : (texts : List (List ℕ)) → AreItems texts → length texts ≤ length (spaced texts)
+few_items [] a = omega arith
+few_items (text ∷ []) a = omega (arith, a.0.some)
+few_items (text ∷ next ∷ texts) a = omega (arith, length-append text (32 ∷ spaced (next ∷ texts)), few_items (next ∷ texts) a.1)
+
+whole_spaced : (texts : List (List ℕ)) → AreItems texts → list_of (spaced texts) ≡ Ok texts
+unfolding list_of
+whole_spaced texts a = spaced_items (length (spaced texts)) texts a (few_items texts a)
+
+pub list_spaced : (texts : List (List ℕ)) → AreItems texts → items_of (spaced texts) ≡ Some texts
+list_spaced texts a = ap result_ok (whole_spaced texts a)
+
+-- ---- a list in braces
+
+pieces_end : (n : ℕ) → pieces_in (suc n) grammar.braced [] ≡ record { pieces = []; end = Ok [] }
+unfolding item_piece_at
+pieces_end n = refl
+
+braced_piece : (b : ℕ) (bs : List ℕ) → (b == 92) ≡ false → item_piece_at grammar.braced (b ∷ bs) ≡ grammar.with_run grammar.braced (b ∷ []) bs
+unfolding item_piece_at
+braced_piece b bs p = rw p refl
+
+no_backslash : (b : ℕ) → is_braced b ≡ true → (b == 92) ≡ false
+no_backslash b p = grind (arith, nat_tests)
+
+abbrev ended_closed : ItemPieces → ItemFront
+ended_closed read = ended_closed_item read.pieces (Ok [])
+
+inner_item : (text : List ℕ) → list_all is_braced text ≡ true → ended_closed (pieces_of grammar.braced text) ≡ found text []
+inner_item [] h = ap ended_closed (pieces_end 0)
+inner_item (b ∷ bs) h =
+    let parts = and_parts (is_braced b) (list_all is_braced bs) h in
+    let n : ℕ = length bs in
+    ap (λ (f : grammar.PieceFront). ended_closed (by_piece f (pieces_in (suc n) grammar.braced))) (braced_piece b bs (no_backslash b parts.0) ∙ inner_run b bs parts.1)
+    ∙ (ap (λ (read : ItemPieces). ended_closed (record { pieces = grammar.text (b ∷ bs) ∷ read.pieces; end = read.end })) (pieces_end n)
+    ∙ ap (λ (t : List ℕ). found t []) (append-nil (b ∷ bs)))
+
+closes : (text : List ℕ) → list_all is_braced text ≡ true → behind_brace (text ++ 125 ∷ []) ≡ Some []
+closes text h = inside_all text [] [] false h ∙ all_closed []
+
+brace_start : (bs : List ℕ) → behind_parting (123 ∷ bs) ≡ 123 ∷ bs
+unfolding behind_parting
+brace_start bs = refl
+
+whole_braced : (text : List ℕ) → list_all is_braced text ≡ true → list_of (123 ∷ (text ++ 125 ∷ [])) ≡ Ok (text ∷ [])
+unfolding list_of
+whole_braced text h =
+    let bs : List ℕ = text ++ 125 ∷ [] in
+    let n : ℕ = length (123 ∷ bs) in
+    ap (λ (place : List ℕ). by_item (item_at place) (items_in n)) (brace_start bs)
+    ∙ (ap (λ (o : Option (List ℕ)). by_item (braced_item bs o) (items_in n)) (closes text h)
+    ∙ (ap (λ (inner : List ℕ). by_item (ended_closed (pieces_of grammar.braced inner)) (items_in n)) (before_is text (125 ∷ []))
+    ∙ (ap (λ (f : ItemFront). by_item f (items_in n)) (inner_item text h) ∙ ap (with_item text) (none_left (length bs)))))
+
+-- a list in braces is one item
+pub list_braced : (text : List ℕ) → list_all is_braced text ≡ true → items_of (123 ∷ (text ++ 125 ∷ [])) ≡ Some (text ∷ [])
+list_braced text h = ap result_ok (whole_braced text h)
