@@ -4,8 +4,8 @@ use Rattle.std.proofs.lemmas.Bool.{eqb-true, or_cases}
 use Rattle.std.specs.Option.{option_and_then}
 use Rattle.sdc_model.specs.declared.clocks.Clock.{Clock}
 use Rattle.sdc_model.specs.declared.commands.Part.{Part}
-use Rattle.sdc_model.specs.ClockGroups.{Groups, is_among, group_of, names_text, place_from, places_of}
-use Rattle.sdc_model.specs.Items.{items}
+use Rattle.sdc_model.specs.ClockGroups.{Groups, is_among, group_of, names_text, place_from, places_in, places_of}
+use Rattle.sdc_model.specs.ListReading.{items_of}
 use Rattle.sdc_model.specs.Words.{same_text}
 use Rattle.sdc_cli.specs.Exclusive.{AreBelow, GroupsBelow}
 
@@ -37,11 +37,15 @@ places_of-below clocks (name ∷ names) ps e =
     places_step (length clocks) (place_from 0 clocks name) (places_of clocks names) ps
     (λ p found. let below : p < 0 + length clocks = place_from-below 0 p clocks name found in omega arith) (places_of-below clocks names) e
 
-group_step : (clocks : List Clock) (text : Option (List ℕ)) (ps : List ℕ) → option_and_then (λ t. places_of clocks (items t)) text ≡ Some ps → AreBelow (length clocks) ps
-group_step clocks None ps e = cc
-group_step clocks (Some text) ps e = places_of-below clocks (items text) ps e
+-- the places of a list of names, and of a group
+list_step : (clocks : List Clock) (names : Option (List (List ℕ))) (ps : List ℕ) → option_and_then (places_of clocks) names ≡ Some ps → AreBelow (length clocks) ps
+list_step clocks None ps e = cc
+list_step clocks (Some names) ps e = places_of-below clocks names ps e
 
--- the places of a group are
+group_step : (clocks : List Clock) (text : Option (List ℕ)) (ps : List ℕ) → option_and_then (places_in clocks) text ≡ Some ps → AreBelow (length clocks) ps
+group_step clocks None ps e = cc
+group_step clocks (Some text) ps e = list_step clocks (items_of text) ps e
+
 pub group_of-below : (clocks : List Clock) (parts : List Part) (ps : List ℕ) → group_of clocks parts ≡ Some ps → AreBelow (length clocks) ps
 group_of-below clocks parts ps e = group_step clocks (names_text parts) ps e
 

@@ -1,3 +1,4 @@
+pub mod Announcements
 pub mod Arguments
 pub mod BothWritten
 pub mod Budgets
@@ -5,7 +6,6 @@ pub mod DistinctPlaces
 pub mod EdgeLines
 pub mod ExclusiveSteps
 pub mod GroupPlaces
-pub mod GroupSteps
 pub mod ItemSteps
 pub mod MergedClocks
 pub mod MergedLengths

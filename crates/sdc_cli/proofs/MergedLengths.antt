@@ -47,15 +47,15 @@ merge_by map pairs = record {
   left = [];
 }
 
-pub counted : (modes : List Mode) (map : ClockMap) (pairs : List Pair) (alone : Mode) (others groups bytes : ℕ)
+pub counted : (modes : List Mode) (map : ClockMap) (pairs : List Pair) (alone : Mode) (front bytes : ℕ)
     → IsClockMap (views_of modes) map → AreExclusivePairs (views_of modes) map.maps (length map.clocks) pairs
     → alone.clocks ≡ map.clocks → alone.exclusive ≡ []
-    → others ≡ length (printed_file empty_design alone) → groups ≡ length (groups_text alone.clocks pairs) → bytes ≡ others + groups
+    → front ≡ length (printed_file empty_design alone) → bytes ≡ front + length (groups_text alone.clocks pairs)
     → IsMergedLength modes bytes
-counted modes map pairs alone others groups bytes is exclusive clocks none others_is groups_is bytes_is =
+counted modes map pairs alone front bytes is exclusive clocks none front_is bytes_is =
     let merged : Merged = merge_by map pairs in
     let merge : IsMergeOf modes merged = record { identity = is; clocks = refl; exclusive = exclusive; alone = refl; listed = refl; left = refl } in
     let total : length (merged_text merged) ≡ length (printed_file empty_design alone) + length (groups_text map.clocks pairs) =
     groups_added empty_design alone merged.mode clocks none in
-    let groups_are : groups ≡ length (groups_text map.clocks pairs) = groups_is ∙ ap (λ cs. length (groups_text cs pairs)) clocks in
-    (merged, merge, total ∙ ap (λ n. n + length (groups_text map.clocks pairs)) (sym others_is) ∙ ap (λ n. others + n) (sym groups_are) ∙ sym bytes_is)
+    let bytes_are : bytes ≡ front + length (groups_text map.clocks pairs) = bytes_is ∙ ap (λ cs. front + length (groups_text cs pairs)) clocks in
+    (merged, merge, total ∙ ap (λ n. n + length (groups_text map.clocks pairs)) (sym front_is) ∙ sym bytes_are)

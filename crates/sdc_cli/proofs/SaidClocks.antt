@@ -19,7 +19,7 @@ use Rattle.sdc_model.specs.declared.kinds.TclKind.{TclKind}
 use Rattle.sdc_model.specs.declared.modes.Mode.{Mode}
 use Rattle.sdc_model.specs.ClockFile.{SoFar, is_name, is_taken, virtual_clock, with_clock, wave_given, plain_clock, waved_clock, create_clock, grouped, group_words, set_clock_groups, keep_for, does_named, does, do_all, clock_mode, or_fault, mode_of, SaysMode}
 use Rattle.sdc_model.specs.EdgesText.{AreTimed, edges_of, HaveTimes}
-use Rattle.sdc_model.specs.Items.{items}
+use Rattle.sdc_model.specs.ListReading.{items_of}
 use Rattle.sdc_model.specs.PrintedFile.{ArePrintableClocks, IsPrintableWave}
 use Rattle.sdc_model.specs.Relation.{IsEdgeOf}
 use Rattle.sdc_model.specs.ClockGroups.{group_of}
@@ -98,7 +98,7 @@ wave_of-holds period _ p = tt
 wave_given-holds : (period : List ℕ) (waveform : Option (List ℕ)) → IfSome (wave_given period waveform) IsPrintableWave
 wave_given-holds period None = then_holds (IsWithin 2) IsPrintableWave (λ time. Some (plain_wave time)) (period_of period) (time_from-holds 2 period) plain_is_printable
 wave_given-holds period (Some waveform) =
-    then_holds (IsWithin 2) IsPrintableWave (λ time. waveform_of time waveform) (period_of period) (time_from-holds 2 period) (λ time. wave_of-holds time (items waveform))
+    then_holds (IsWithin 2) IsPrintableWave (λ time. waveform_of time waveform) (period_of period) (time_from-holds 2 period) (λ time p. each_holds IsPrintableWave (wave_of time) (items_of waveform) (λ parts. wave_of-holds time parts p))
 
 -- ---- clocks so far
 

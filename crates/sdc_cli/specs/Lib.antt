@@ -1,3 +1,4 @@
+pub mod Announced
 pub mod Exclusive
 pub mod ExitNumbers
 pub mod Laws

@@ -1,11 +1,14 @@
-//! The items of a plain list: runs of bytes that are no blanks, parted by blanks.
+//! Lists that stand in a mode file (Tcl), and blanks.
 
-ghost use Rattle.std.specs.Prelude.{◌≡◌, ◌∷◌, [], ◌<◌, length, not};
+ghost use Rattle.std.specs.Prelude.{◌≡◌, IfOk};
 ghost use Rattle.std.specs.List.{prefix_len};
-ghost use Rattle.std.specs.Option.{IfNone, IfSome};
 ghost use Rattle.sdc_model.specs.Bytes.{is_blank as blank};
 ghost use Rattle.sdc_model.specs.ClockGroups.{behind_blanks};
-ghost use Rattle.sdc_model.specs.Items.{items};
+ghost use Rattle.sdc_model.specs.ListReading.{items_of};
+
+use sdc_base::{List, NoMemory, Stop, Text};
+use std::alloc::Global;
+use tcl_words::list_items;
 
 /// Whether a byte is a blank.
 fn is_blank(byte: u8) -> bool
@@ -29,24 +32,14 @@ fn blanks(text: &[u8]) -> usize
     text.iter().take_while(|byte| is_blank(**byte)).count()
 }
 
-/// The number of bytes before the first blank of a text.
-fn bytes_before_blank(text: &[u8]) -> usize
-    ensures { result ≡ prefix_len (λ byte. not (blank byte)) text.now }
+/// The items of a text as a list (Tcl); `None` where it is no list. The one error is want of memory.
+#[tactic(auto, using(crate::proofs::ItemSteps::items_are))]
+pub fn items_of(alloc: Global, text: &str) -> Result<Option<List<Text>>, NoMemory>
+    ensures { IfOk result (λ items. items ≡ items_of text.now) }
 {
-    text.iter().take_while(|byte| !is_blank(**byte)).count()
-}
-
-/// The first item of a text, and the text behind it; `None` where a text has only blanks.
-pub fn first_item(text: &str) -> Option<(&str, &str)>
-    ensures none { IfNone result (items text.now ≡ []) }
-    ensures some { IfSome result
-        (λ found. items text.now ≡ found.0.now ∷ items found.1.now) }
-    ensures shorter { IfSome result (λ found. length found.1.now < length text.now) }
-{
-    let item = behind_blanks(text);
-    if item.is_empty() {
-        return None;
+    match list_items(alloc, text) {
+        Ok(items) => Ok(Some(items)),
+        Err(Stop::Refused(_)) => Ok(None),
+        Err(Stop::NoMemory) => Err(NoMemory),
     }
-    let end = bytes_before_blank(item.as_bytes());
-    Some(item.split_at(end))
 }

@@ -11,10 +11,12 @@ mod command_line;
 mod edges_report;
 mod exit_numbers;
 mod fault_count;
+mod fault_lines;
 mod file_inputs;
 mod file_outputs;
 mod group_pairs;
 mod items;
+mod kind_names;
 mod laws;
 mod merge_rows;
 mod merges;
@@ -31,6 +33,7 @@ mod tool;
 mod waveforms;
 
 pub use exit_numbers::exit_number;
+pub use fault_lines::announce;
 pub use file_inputs::FileInputs;
 pub use file_outputs::FileOutputs;
 pub use laws::{

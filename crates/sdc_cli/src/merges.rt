@@ -11,7 +11,7 @@ ghost use Rattle.sdc_cli.specs.MergeOutput.{empty_design, IsMergedLength};
 use clock_map::{ExclusiveRows, exclusive_pairs, map_clocks};
 use sdc_base::{Duplicate, List, NoMemory, Stop, Text};
 use sdc_model::{Arrivals, Clock, Design, Form, MergeStop, Merged, Mode, Pair, View, Wave};
-use sdc_print::{group_length, printed_length};
+use sdc_print::{length_with_group, printed_length};
 use std::alloc::Global;
 
 /// Femtoseconds in a nanosecond, the unit of the empty design.
@@ -70,31 +70,28 @@ pub fn merged_length(alloc: Global, design: &Design, modes: &List<Mode>) -> Resu
     let count = map.clocks.len() as u32;
     let rows = ExclusiveRows::new(alloc, &views, &map.maps, count)?;
     let mode = clock_mode(alloc, map.clocks.copy(alloc)?, List::new(alloc));
-    let others = printed_length(alloc, design, &mode)?;
-    let groups = groups_length(alloc, &mode.clocks, &rows)?;
-    let bytes = sum(others, groups)?;
+    let front = printed_length(design, &mode)?;
+    let bytes = length_with_groups(alloc, front, &mode.clocks, &rows)?;
     Ok(bytes)
 }
 
-/// The number of bytes of the lines of groups, by the pairs of each first clock.
-fn groups_length(alloc: Global, clocks: &List<Clock>, rows: &ExclusiveRows) -> Result<u64, NoMemory>
+/// The number of bytes of a front and of the lines of groups behind it, by the pairs of each first clock.
+fn length_with_groups(
+    alloc: Global,
+    front: u64,
+    clocks: &List<Clock>,
+    rows: &ExclusiveRows,
+) -> Result<u64, NoMemory>
     requires { length clocks.now ≤ 16384 }
-    ensures { IfOk result (λ bytes. bytes ≡ length (groups_text clocks.now rows.now)) }
+    ensures { IfOk result (λ bytes. bytes ≡ front + length (groups_text clocks.now rows.now)) }
 {
-    let mut bytes = 0;
+    let mut bytes = front;
     for (first, clock) in clocks.as_slice().iter().enumerate() {
         let mut pairs = List::new(alloc);
         rows.push_row(alloc, &mut pairs, first as u32)?;
-        bytes = sum(bytes, group_length(clock, clocks, &pairs)?)?;
+        bytes = length_with_group(bytes, clock, clocks, &pairs)?;
     }
     Ok(bytes)
-}
-
-/// The sum of two numbers of bytes. Where it passes 64 bits, no memory has so many.
-fn sum(first: u64, second: u64) -> Result<u64, NoMemory>
-    ensures { IfOk result (λ total. total ≡ first + second) }
-{
-    first.checked_add(second).ok_or(NoMemory)
 }
 
 /// Modes as an analysis over no pin sees them: each clock with its own waveform.

@@ -150,7 +150,8 @@ fn plain_clock(
     let Some(period) = only_text(period) else {
         return Ok(None);
     };
-    so_far.with_clock(alloc, line, name, wave_given(period.as_str(), None))
+    let wave = wave_given(alloc, period.as_str(), None)?;
+    so_far.with_clock(alloc, line, name, wave)
 }
 
 /// The clock of a name, a period and a waveform. The one error is want of memory.
@@ -174,7 +175,7 @@ fn waved_clock(
     let Some(waveform) = only_text(waveform) else {
         return Ok(None);
     };
-    let wave = wave_given(period.as_str(), Some(waveform.as_str()));
+    let wave = wave_given(alloc, period.as_str(), Some(waveform.as_str()))?;
     so_far.with_clock(alloc, line, name, wave)
 }
 

@@ -3,11 +3,14 @@
 ghost use Rattle.std.specs.Prelude.{◌≡◌, ◌≤◌, length, IfErr, Some, Err};
 ghost use Rattle.sdc_model.specs.CommandLine.{command_line, words_of};
 ghost use Rattle.sdc_model.specs.Answers.{OnTold, OnModes, IsLineFault, UsageFits, CauseFits, TooLargeFits, ReadFaultFits, WriteFaultFits, LeavesReading, LeavesWritten, made_by, made_file, files_of};
+ghost use Rattle.sdc_model.specs.FaultLine.{LeavesFaults, with_faults};
+ghost use Rattle.sdc_cli.specs.Announced.{HasCauses};
 ghost use Rattle.sdc_cli.specs.Steps.{WritesOutput, EndsWriting, WritesBoth};
 ghost use Rattle.sdc_base.specs.Counting.{Rose};
 ghost use Rattle.sdc_cli.specs.Outputs.{IsOutputOf, IsTooLargeOf, ComputesLine, StopsComputing};
 
 use crate::command_line::command_line;
+use crate::fault_lines::announce;
 use crate::mode_files::read_modes;
 use crate::outputs::output_of;
 use sdc_base::{Channel, Inputs, Outputs, Refusal, Text, write_all};
@@ -15,12 +18,13 @@ use sdc_model::{CommandLine, Output, Status};
 use std::alloc::Global;
 
 /// Runs the tool on the words behind the program's name. All is computed before the first call on the
-/// outputs.
+/// outputs. What stopped it is named by one line on `Channel::Faults`.
 ///
 /// The answers are this project's own: `Usage` exactly where the words are no command line, `Source` with the
 /// first fault of a file, `TooLarge` where the merged text would have more than 268,435,456 bytes, `ReadFault`
 /// and `WriteFault` only where the inputs or outputs counted a fault, `Done` where all was written whole, and
 /// `NoMemory` wherever memory ran out.
+#[tactic(auto, using(crate::proofs::Announcements::usage_leaves, crate::proofs::Announcements::usage_names, crate::proofs::Announcements::memory_leaves, crate::proofs::Announcements::memory_names, crate::proofs::Announcements::usage_ends, crate::proofs::Announcements::cause_ends, crate::proofs::Announcements::too_large_ends, crate::proofs::Announcements::read_fault_ends, crate::proofs::Announcements::write_fault_ends, crate::proofs::Announcements::reads_ends))]
 pub fn run<I: Inputs, O: Outputs>(
     alloc: Global,
     words: &[String],
@@ -44,22 +48,31 @@ pub fn run<I: Inputs, O: Outputs>(
         (I.faults inputs.old) (I.faults inputs.new) result }
     ensures write_fault { WriteFaultFits (O.faults outputs.old) (O.faults outputs.new) result }
 
-    // What stands in the inputs and in the outputs after it.
+    // What stands in the inputs and in the outputs after it, the line that names what stopped it apart.
     ensures reads { OnTold (LeavesReading (command_line (words_of words.now)) result)
         (I.told inputs.old) (I.told inputs.new) }
     ensures writes { let line = command_line (words_of words.now) in
-        OnTold (LeavesWritten (made_by line)
-        (λ output. OnModes (λ l modes. IsOutputOf l modes output) (I.told inputs.old) line) result)
+        OnTold (λ before after. LeavesWritten (made_by line)
+        (λ output. OnModes (λ l modes. IsOutputOf l modes output) (I.told inputs.old) line) result
+        before (with_faults before.faults after))
+        (O.told outputs.old) (O.told outputs.new) }
+
+    // That line, whole, or a front of it where a write failed; after want of memory a front of one.
+    ensures names { let line = command_line (words_of words.now) in
+        OnTold (λ before after. LeavesFaults line
+        (HasCauses (I.told inputs.old) (I.faults inputs.old) (I.faults inputs.new) line)
+        (Rose (O.faults outputs.old) (O.faults outputs.new)) result before.faults after.faults)
         (O.told outputs.old) (O.told outputs.new) }
 {
     match command_line(alloc, words) {
         Ok(Some(line)) => run_line(alloc, &line, inputs, outputs),
-        Ok(None) => Status::Usage,
-        Err(_) => Status::NoMemory,
+        Ok(None) => announce(alloc, None, Status::Usage, outputs),
+        Err(_) => announce(alloc, None, Status::NoMemory, outputs),
     }
 }
 
-/// Runs a command line.
+/// Runs a command line, and names what stopped it.
+#[tactic(auto, using(crate::proofs::Announcements::cause_ends, crate::proofs::Announcements::write_fault_ends))]
 fn run_line<I: Inputs, O: Outputs>(
     alloc: Global,
     line: &CommandLine,
@@ -75,6 +88,38 @@ fn run_line<I: Inputs, O: Outputs>(
     ensures read_fault { ReadFaultFits (Some line.now)
         (I.faults inputs.old) (I.faults inputs.new) result }
     ensures write_fault { WriteFaultFits (O.faults outputs.old) (O.faults outputs.new) result }
+    ensures reads { OnTold (LeavesReading (Some line.now) result)
+        (I.told inputs.old) (I.told inputs.new) }
+    ensures writes { OnTold (λ before after. LeavesWritten (made_file line.now)
+        (λ output. OnModes (λ l modes. IsOutputOf l modes output) (I.told inputs.old) (Some line.now)) result
+        before (with_faults before.faults after))
+        (O.told outputs.old) (O.told outputs.new) }
+    ensures names { OnTold (λ before after. LeavesFaults (Some line.now)
+        (HasCauses (I.told inputs.old) (I.faults inputs.old) (I.faults inputs.new) (Some line.now))
+        (Rose (O.faults outputs.old) (O.faults outputs.new)) result before.faults after.faults)
+        (O.told outputs.old) (O.told outputs.new) }
+{
+    let status = write_line_output(alloc, line, inputs, outputs);
+    announce(alloc, Some(line), status, outputs)
+}
+
+/// Computes the output of a command line and writes it.
+fn write_line_output<I: Inputs, O: Outputs>(
+    alloc: Global,
+    line: &CommandLine,
+    inputs: &mut I,
+    outputs: &mut O,
+) -> Status
+    requires { length (files_of line.now) ≤ 16 }
+    ensures usage { UsageFits (Some line.now) result }
+    ensures cause { CauseFits (λ output. OnModes (λ l modes. IsOutputOf l modes output) (I.told inputs.old) (Some line.now))
+        (IsLineFault (I.told inputs.old) (Some line.now))
+        (λ bytes. OnModes (λ l modes. IsTooLargeOf l modes bytes) (I.told inputs.old) (Some line.now)) result }
+    ensures too_large { TooLargeFits (Some line.now) result }
+    ensures read_fault { ReadFaultFits (Some line.now)
+        (I.faults inputs.old) (I.faults inputs.new) result }
+    ensures write_fault { WriteFaultFits (O.faults outputs.old) (O.faults outputs.new) result }
+    ensures counts { O.faults outputs.old ≤ O.faults outputs.new }
     ensures reads { OnTold (LeavesReading (Some line.now) result)
         (I.told inputs.old) (I.told inputs.new) }
     ensures writes { OnTold (LeavesWritten (made_file line.now)
@@ -107,6 +152,7 @@ fn write_output<O: Outputs>(line: &CommandLine, output: &Output, outputs: &mut O
     ensures writes { OnTold (WritesOutput (made_file line.now) output.now result)
         (O.told outputs.old) (O.told outputs.new) }
     ensures write_fault { WriteFaultFits (O.faults outputs.old) (O.faults outputs.new) result }
+    ensures counts { O.faults outputs.old ≤ O.faults outputs.new }
     ensures ends { EndsWriting result }
 {
     let written = match line {

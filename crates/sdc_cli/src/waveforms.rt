@@ -1,15 +1,16 @@
 //! The waveform of a clock from the numbers of its command (SDC 2.1, `create_clock`), all times in whole
 //! femtoseconds.
 
-ghost use Rattle.std.specs.Prelude.{◌≡◌, ◌≤◌, ◌<◌, ◌+◌, ◌^◌, IfSome};
+ghost use Rattle.std.specs.Prelude.{◌≡◌, ◌≤◌, ◌<◌, ◌+◌, ◌^◌, IfSome, IfOk};
 ghost use Rattle.std.specs.Option.{option_copied};
 ghost use Rattle.sdc_model.specs.ClockFile.{wave_given};
-ghost use Rattle.sdc_model.specs.Waveform.{plain_wave, period_of, time_from, limited_time, wave_within, waveform_of, moved_down};
+ghost use Rattle.sdc_model.specs.Waveform.{plain_wave, period_of, time_from, limited_time, wave_within, wave_of, waveform_of, moved_down};
 ghost use Rattle.sdc_cli.specs.Waves.{IsPeriod};
 
-use crate::items::first_item;
-use sdc_base::Fixed;
+use crate::items::items_of;
+use sdc_base::{Fixed, NoMemory, Text};
 use sdc_model::Wave;
+use std::alloc::Global;
 
 /// Femtoseconds in a nanosecond, the unit of a clock file.
 const NANOSECOND: i64 = 1_000_000;
@@ -21,14 +22,20 @@ const SHORTEST_PERIOD: u64 = 2;
 const LONGEST_TIME: u64 = 1_000_000_000_000;
 
 /// The waveform of a period's text and of a waveform's text, where there is one; without a waveform a clock
-/// rises at 0 and falls at half its period, rounded down.
-pub fn wave_given(period: &str, waveform: Option<&str>) -> Option<Wave>
-    ensures { result ≡ wave_given period.now (option_copied waveform.entry) }
+/// rises at 0 and falls at half its period, rounded down. The one error is want of memory.
+pub fn wave_given(
+    alloc: Global,
+    period: &str,
+    waveform: Option<&str>,
+) -> Result<Option<Wave>, NoMemory>
+    ensures { IfOk result (λ wave. wave ≡ wave_given period.now (option_copied waveform.entry)) }
 {
-    let period = period_of(period)?;
+    let Some(period) = period_of(period) else {
+        return Ok(None);
+    };
     match waveform {
-        None => Some(plain_wave(period)),
-        Some(waveform) => waveform_of(period, waveform),
+        None => Ok(Some(plain_wave(period))),
+        Some(waveform) => waveform_of(alloc, period, waveform),
     }
 }
 
@@ -79,18 +86,28 @@ fn plain_wave(period: u64) -> Wave
     }
 }
 
-/// The waveform of a list of two times in nanoseconds, of the rise and of the fall.
-fn waveform_of(period: u64, text: &str) -> Option<Wave>
+/// The waveform of a text that is a list (Tcl) of two times in nanoseconds, of the rise and of the fall. The one error
+/// is want of memory.
+fn waveform_of(alloc: Global, period: u64, text: &str) -> Result<Option<Wave>, NoMemory>
     requires { IsPeriod period }
-    ensures { result ≡ waveform_of period text.now }
+    ensures { IfOk result (λ wave. wave ≡ waveform_of period text.now) }
 {
-    let (rise, others) = first_item(text)?;
-    let (fall, others) = first_item(others)?;
-    if first_item(others).is_some() {
+    let Some(times) = items_of(alloc, text)? else {
+        return Ok(None);
+    };
+    Ok(wave_of(period, times.as_slice()))
+}
+
+/// The waveform of two times in nanoseconds, of the rise and of the fall.
+fn wave_of(period: u64, times: &[Text]) -> Option<Wave>
+    requires { IsPeriod period }
+    ensures { result ≡ wave_of period times.now }
+{
+    let [rise, fall] = times else {
         return None;
-    }
-    let rise = time_from(0, rise)?;
-    let fall = time_from(0, fall)?;
+    };
+    let rise = time_from(0, rise.as_str())?;
+    let fall = time_from(0, fall.as_str())?;
     wave_within(period, rise, fall)
 }
 

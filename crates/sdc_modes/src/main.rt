@@ -1,7 +1,7 @@
 //! The program: its words to `run`, and the answer of `run` to the shell.
 #![tactic(auto)]
 
-use sdc_cli::{FileInputs, FileOutputs, Status, exit_number, run};
+use sdc_cli::{FileInputs, FileOutputs, Status, announce, exit_number, run};
 use std::env;
 use std::io::ErrorKind;
 use std::process::ExitCode;
@@ -14,13 +14,13 @@ fn main(rt: HostRuntime) -> ExitCode {
         Err(error) if error.kind() == ErrorKind::OutOfMemory => Err(Status::NoMemory),
         Err(_) => Err(Status::Usage),
     };
+    let mut outputs = FileOutputs::new(&rt, rt.stdout(), rt.stderr());
     let status = match words {
         Ok(words) => {
             let mut inputs = FileInputs::new(&rt);
-            let mut outputs = FileOutputs::new(&rt, rt.stdout(), rt.stderr());
             run(alloc, words.as_slice(), &mut inputs, &mut outputs)
         }
-        Err(status) => status,
+        Err(status) => announce(alloc, None, status, &mut outputs),
     };
     ExitCode::from(exit_number(&status))
 }

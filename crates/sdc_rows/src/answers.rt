@@ -40,14 +40,21 @@ fn on_any_line(status: Status) -> Status {
     }
 }
 
-/// Whether a run ended with this answer, and wrote nothing.
+/// Whether a run ended with this answer, and wrote nothing but its line.
 pub fn has_stopped(outcome: &Outcome, status: Status) -> bool {
-    on_any_line(outcome.status) == status && outcome.writes == 0
+    on_any_line(outcome.status) == status && has_no_output(outcome)
 }
 
-/// Whether a run took its words for no command line, and called nothing.
+/// Whether nothing is written to the merged file and the report, and the file was not made.
+pub fn has_no_output(outcome: &Outcome) -> bool {
+    outcome.name.is_empty() && outcome.merged.is_empty() && outcome.report.is_empty()
+}
+
+/// Whether a run took its words for no command line, read nothing, and wrote nothing but its line.
 fn has_refused(outcome: &Outcome) -> bool {
-    outcome.status == Status::Usage && outcome.reads == 0 && outcome.writes == 0
+    outcome.refusals.as_str() == "wrong command line\n"
+        && outcome.reads == 0
+        && has_stopped(outcome, Status::Usage)
 }
 
 /// Whether a run was done, and made a merged file of this name, or none where it is empty.
@@ -55,9 +62,9 @@ fn has_named(outcome: &Outcome, name: &str) -> bool {
     outcome.status == Status::Done && outcome.name.as_str() == name
 }
 
-/// Whether a run was done, and left these texts in the merged file and in the report.
+/// Whether a run was done, and left these texts in the merged file and in the report, and no line.
 pub fn has_written(outcome: &Outcome, merged: &str, report: &str) -> bool {
-    has_left(outcome, Status::Done, merged, report)
+    has_left(outcome, Status::Done, merged, report) && outcome.refusals.is_empty()
 }
 
 /// Whether a run ended with this answer, and left these texts in the merged file and in the report.
@@ -65,10 +72,10 @@ pub fn has_left(outcome: &Outcome, status: Status, merged: &str, report: &str) -
     outcome.status == status
         && outcome.merged.as_str() == merged
         && outcome.report.as_str() == report
-        && outcome.refusals.is_empty()
 }
 
-/// Runs these words over these files, and sees that the answer is this one, on any line, and that nothing is written.
+/// Runs these words over these files, and sees that the answer is this one, on any line, and that nothing is
+/// written but its line.
 pub fn stops(
     rt: &impl Abort,
     alloc: Global,

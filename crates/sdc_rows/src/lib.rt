@@ -9,6 +9,8 @@ mod edges;
 #[cfg(test)]
 mod edges_files;
 #[cfg(test)]
+mod fault_lines;
+#[cfg(test)]
 mod merge;
 #[cfg(test)]
 mod merge_faults;

@@ -54,11 +54,11 @@ fn stands(outcome: &Outcome, write: u64) -> bool {
     is_right && has_failed(outcome, if write == 1 { "" } else { "o.sdc" })
 }
 
-/// Whether a write failed, with a merged file of this name, or none where it is empty.
+/// Whether a write failed, and the line says so, with a merged file of this name, or none where it is empty.
 fn has_failed(outcome: &Outcome, name: &str) -> bool {
     outcome.status == Status::WriteFault
         && outcome.name.as_str() == name
-        && outcome.refusals.is_empty()
+        && outcome.refusals.as_str() == "cannot write\n"
 }
 
 /// Sees what stands where this call of the outputs fails.

@@ -1,9 +1,10 @@
 //! `merge` where the merged text would have more bytes than a file may have.
 
 use crate::answers::has_stopped;
+use crate::fault_lines::has_said;
 use crate::runs::{NO_FAILS, outcome_of};
 use sdc_base::NoMemory;
-use sdc_cli::{Status, exit_number};
+use sdc_cli::Status;
 use std::alloc::Global;
 use std::test::Fail;
 
@@ -32,6 +33,9 @@ fn a_merged_text_that_is_too_large(rt: HostRuntime) -> Result<(), Fail> {
         has_stopped(&refused, Status::TooLarge(271_690_536)),
         "{refused:?}"
     );
-    assert_eq!(rt; exit_number(&refused.status), 10);
+    assert!(rt;
+        has_said(&refused, "merged file would have 271690536 bytes\n"),
+        "{refused:?}"
+    );
     Ok(())
 }

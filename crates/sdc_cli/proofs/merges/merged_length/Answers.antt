@@ -37,8 +37,8 @@ printed_length-requires c =
     alone_is_printable modes map alone c.requires.printable identity clocks none c.clock_mode-mode.ensures.alone in
     rw c.requires.empty printable
 
-pub groups_length-requires : goal.groups_length-requires
-groups_length-requires c =
+pub length_with_groups-requires : goal.length_with_groups-requires
+length_with_groups-requires c =
     let few : length c.in_ok-map.map.clocks ≤ clocks_in c.args.modes.now =
     rw (c.in_ok-views.ensures, c.as_slice.ensures, views_count c.args.modes.now) at c.in_ok-map.ensures.few in
     let same : length c.clock_mode-mode.result.clocks ≡ length c.in_ok-map.map.clocks =
@@ -55,6 +55,5 @@ returns c =
     rw (← c.as_slice.ensures, ← c.in_ok-views.ensures, ← c.len-count.ensures) c.in_ok-rows.ensures in
     let clocks : alone.clocks ≡ map.clocks = c.clock_mode-mode.ensures.clocks ∙ c.in_ok-copy.ensures in
     let none : alone.exclusive ≡ [] = c.clock_mode-mode.ensures.exclusive ∙ c.new-2.ensures in
-    let others : c.in_ok-others.others ≡ length (printed_file empty_design alone) = rw c.requires.empty at c.in_ok-others.ensures in
-    counted modes map c.in_ok-rows.rows alone c.in_ok-others.others c.in_ok-groups.groups c.in_ok-bytes.bytes
-    identity exclusive clocks none others c.in_ok-groups.ensures c.in_ok-bytes.ensures
+    let front : c.in_ok-front.front ≡ length (printed_file empty_design alone) = rw c.requires.empty at c.in_ok-front.ensures in
+    counted modes map c.in_ok-rows.rows alone c.in_ok-front.front c.in_ok-bytes.bytes identity exclusive clocks none front c.in_ok-bytes.ensures

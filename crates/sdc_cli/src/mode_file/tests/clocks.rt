@@ -18,12 +18,15 @@ fn wave_says(
 }
 
 /// A period, a waveform, and what they say.
-static WAVEFORMS: [(&str, &str, &str); 10] = [
+static WAVEFORMS: [(&str, &str, &str); 12] = [
     // within one period
     ("10", "0 5", "a 10000000 0 5000000;"),
     ("10", "2 5", "a 10000000 2000000 5000000;"),
     ("10", "0 9.999999", "a 10000000 0 9999999;"),
     ("10", "\t 2 \t 5 ", "a 10000000 2000000 5000000;"),
+    // other spellings of the list
+    ("10", "0 {5}", "a 10000000 0 5000000;"),
+    ("10", "\"2\"\n5\r", "a 10000000 2000000 5000000;"),
     // the fall in the next period
     ("10", "9 18.999999", "a 10000000 9000000 18999999;"),
     // moved down
@@ -43,7 +46,7 @@ fn waveforms_of_clocks(rt: HostRuntime) -> Result<(), Fail> {
 }
 
 /// Waveforms that a clock of 10 ns has not.
-static NO_WAVEFORMS: [&str; 12] = [
+static NO_WAVEFORMS: [&str; 14] = [
     // the fall not behind the rise, or not before the next one
     "0 0",
     "5 5",
@@ -58,7 +61,10 @@ static NO_WAVEFORMS: [&str; 12] = [
     "5",
     "0 5 6",
     "0 x",
-    "0 {5}",
+    "{0 5}",
+    // no list
+    "0 {5",
+    "{0}5",
 ];
 
 #[test]

@@ -19,7 +19,7 @@ const SAID_CLOCKS: &str =
     "a 2000000 0 1000000;b 2000000 0 1000000;c 2000000 0 1000000;d 2000000 0 1000000;";
 
 /// The arguments of groups behind these clocks, and the exclusive pairs that they make.
-static GROUPS: [(&str, &str); 11] = [
+static GROUPS: [(&str, &str); 13] = [
     // a name, a list and a query, the lesser place first
     ("|-group|a|-group|b", " 0-1"),
     ("|-group|d|-group|a", " 0-3"),
@@ -29,6 +29,9 @@ static GROUPS: [(&str, &str); 11] = [
         " 1-2 1-3",
     ),
     ("|-group|{ b\t}|-group|[get_clocks {a}]", " 0-1"),
+    // other spellings of lists
+    ("|-group|{a {b}}|-group|b", " 0-1"),
+    ("|-group|a|-group|[get_clocks {{b} \"c\"}]", " 0-1 0-2"),
     // a clock is not exclusive with itself
     ("|-group|a|-group|a", ""),
     ("|-group|{a b}|-group|{b a}", " 0-1"),
@@ -59,16 +62,19 @@ fn exclusive_pairs_of_groups(rt: HostRuntime) -> Result<(), Fail> {
 }
 
 /// Arguments of groups that are not read behind these clocks.
-static OTHER_GROUPS: [&str; 16] = [
+static OTHER_GROUPS: [&str; 18] = [
     // names that are no clocks
     "-asynchronous|-group|a|-group|e",
     "-asynchronous|-group|{a e}|-group|b",
-    "-asynchronous|-group|{a {b}}|-group|b",
+    "-asynchronous|-group|{{a b}}|-group|b",
+    // no lists
+    "-asynchronous|-group|{a {b}|-group|b",
     // queries of another form
     "-asynchronous|-group|a|-group|[get_clocks b]",
     "-asynchronous|-group|a|-group|[get_clocks{b}]",
     "-asynchronous|-group|a|-group|[get_clocks {b} c]",
     "-asynchronous|-group|a|-group|[get_clocks {b]",
+    "-asynchronous|-group|a|-group|[get_clocks {b}c]",
     "-asynchronous|-group|a|-group|[get_ports {b}]",
     "-asynchronous|-group|a|-group|[get_clocks]",
     "-asynchronous|-group|a|-group|[]",

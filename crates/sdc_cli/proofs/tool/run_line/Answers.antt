@@ -1,0 +1,34 @@
+use Rattle.std.proofs.Common.{Some}
+use Rattle.sdc_cli.specs.Announced.{HasCauses}
+use Rattle.sdc_cli.proofs.Announcements.{leaves_faults, leaves_written, read_fault_ends, reads_ends, rose_second, too_large_ends, usage_ends}
+use Rattle.sdc_cli.proofs.tool.run_line.Goals as goal
+
+pub returns-clause-usage : goal.returns-clause-usage
+returns-clause-usage g c = usage_ends (Some c.args.line.now) _ _ c.announce.ensures.ends c.write_line_output-status.ensures.usage
+
+pub returns-clause-too_large : goal.returns-clause-too_large
+returns-clause-too_large g c = too_large_ends (Some c.args.line.now) _ _ c.announce.ensures.ends c.write_line_output-status.ensures.too_large
+
+pub returns-clause-read_fault : goal.returns-clause-read_fault
+returns-clause-read_fault g c =
+    let faults = g.I.Inputs.faults in
+    read_fault_ends (Some c.args.line.now) (faults c.args.inputs.now) (faults c.write_line_output-status.new.inputs) _ _ c.announce.ensures.ends
+    c.write_line_output-status.ensures.read_fault
+
+pub returns-clause-reads : goal.returns-clause-reads
+returns-clause-reads g c = reads_ends (Some c.args.line.now) _ _ _ _ c.announce.ensures.ends c.write_line_output-status.ensures.reads
+
+pub returns-clause-writes : goal.returns-clause-writes
+returns-clause-writes g c =
+    leaves_written _ _ (Some c.args.line.now) _ _ _ _ _ _ c.announce.ensures.ends c.write_line_output-status.ensures.writes c.announce.ensures.announces
+
+pub returns-clause-names : goal.returns-clause-names
+returns-clause-names g c =
+    let told = g.I.Inputs.told in
+    let faults = g.I.Inputs.faults in
+    let ran = c.write_line_output-status.ensures in
+    let line = Some c.args.line.now in
+    let stood : HasCauses (told c.args.inputs.now) (faults c.args.inputs.now) (faults c.write_line_output-status.new.inputs) line c.write_line_output-status.result =
+    (ran.usage, ran.cause, ran.too_large, ran.read_fault) in
+    leaves_faults _ _ line (HasCauses (told c.args.inputs.now) (faults c.args.inputs.now) (faults c.write_line_output-status.new.inputs) line) _ _ _ _ _ _ _
+    stood (rose_second _ _ _ ran.counts) ran.writes c.announce.ensures.announces

@@ -1,0 +1,31 @@
+-- What writing the line of an answer leaves, and the answer that a run then ends with. This project's own rule.
+-- The line is made whole and then written; a write that fails changes no answer, and want of memory makes it that.
+use Rattle.std.specs.Prelude.{◌≡◌, ◌⊎◌, ℕ, Option}
+use Rattle.sdc_base.specs.Channels.{Written}
+use Rattle.sdc_base.specs.Files.{Reading}
+use Rattle.sdc_model.specs.declared.answers.Status.{Status}
+use Rattle.sdc_model.specs.declared.answers.Status.TheVariants as status
+use Rattle.sdc_model.specs.declared.command_lines.CommandLine.{CommandLine}
+use Rattle.sdc_model.specs.Answers.{CauseFits, IsLineFault, OnModes, ReadFaultFits, TooLargeFits, UsageFits}
+use Rattle.sdc_model.specs.FaultLine.{LeavesFaults, with_faults}
+use Rattle.sdc_cli.specs.Outputs.{IsOutputOf, IsTooLargeOf}
+
+-- the answer, or want of memory in its place; what is done stays done
+abbrev pub EndsAs : Status → Status → Type 0
+EndsAs status.Done ended = ended ≡ status.Done
+EndsAs answer ended = (ended ≡ answer) ⊎ (ended ≡ status.NoMemory)
+
+-- the line of the answer stands in the channel of faults as it should where a run ends so, and nothing else changed
+abbrev pub Announces : Option CommandLine → Status → Type 0 → Status → Written → Written → Type 0
+Announces line answer Failed ended before after =
+    (with_faults before.faults after ≡ before)
+    × LeavesFaults line (λ stood. stood ≡ answer) Failed ended before.faults after.faults
+
+-- an answer with its causes in the words, in the files and in the counts of the faults of the inputs
+abbrev pub HasCauses : Option Reading → ℕ → ℕ → Option CommandLine → Status → Type 0
+HasCauses told before after line answer =
+    UsageFits line answer
+    × CauseFits (λ output. OnModes (λ l modes. IsOutputOf l modes output) told line) (IsLineFault told line)
+    (λ bytes. OnModes (λ l modes. IsTooLargeOf l modes bytes) told line) answer
+    × TooLargeFits line answer
+    × ReadFaultFits line before after answer
