@@ -1,8 +1,8 @@
 -- What a `Reading` of this crate stands for, and what stands before the next operand behind each operator between
 -- two. Liberty's binding, as `FunctionText` has it.
 use Rattle.std.specs.Prelude.{reverse}
-use Rattle.sdc_model.specs.declared.function_texts.Pending.{Pending}
-use Rattle.sdc_model.specs.declared.functions.Expr.{Expr}
+use Rattle.source_types.specs.declared.function_texts.Pending.{Pending}
+use Rattle.source_types.specs.declared.functions.Expr.{Expr}
 use Rattle.sdc_model.specs.FunctionText as spec
 use Rattle.sdc_model.specs.FunctionText.{behind_and, behind_or, behind_xor}
 use Rattle.bool_lanes.specs.declared.reading.Operator.{Operator}

@@ -1,9 +1,9 @@
 -- The clocks of all modes, none of them generated, one mode behind the other.
 use Rattle.std.proofs.Common.{◌≡◌, ℕ, zero, suc, ◌+◌, ◌<◌, List, [], ◌∷◌, ◌++◌, length, drop, get_or, sym, ap, ◌∙◌, subst, append_assoc, arith}
 use Rattle.std.proofs.lemmas.List.{drop_more}
-use Rattle.sdc_model.specs.declared.views.View.{View}
-use Rattle.sdc_model.specs.declared.identities.Standing.{Standing}
-use Rattle.sdc_model.specs.declared.identities.Identity.{Identity}
+use Rattle.timing_types.specs.declared.views.View.{View}
+use Rattle.timing_types.specs.declared.identities.Standing.{Standing}
+use Rattle.timing_types.specs.declared.identities.Identity.{Identity}
 use Rattle.sdc_model.specs.ClockIdentity.{mode_standings, identities_among, standings_of, identities_of}
 use Rattle.sdc_model.specs.PlainViews.{ArePrimary, ModesArePrimary, HaveWaves}
 

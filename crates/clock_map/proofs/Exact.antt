@@ -5,17 +5,17 @@ use Rattle.std.specs.Option.{option_cmp}
 use Rattle.std.specs.Cmp.Lexicographic.{slice_cmp}
 use Rattle.std.specs.declared.cmp.Ordering.TheVariants.{Less, Equal, Greater}
 use Rattle.std.proofs.lemmas.Map.Lookups.{CmpEqualImpliesEq, exact_signed, exact_unsigned}
-use Rattle.sdc_model.specs.declared.identities.Definition.{Definition}
-use Rattle.sdc_model.specs.declared.clocks.Form.TheVariants.{Primary, Generated}
-use Rattle.sdc_model.specs.declared.clocks.Shape.TheVariants.{Divide, Multiply, Edges}
-use Rattle.sdc_model.specs.contracts.identities.DefinitionOrd.TheImpl as definition_order
-use Rattle.sdc_model.specs.contracts.identities.IdentityOrd.TheImpl as identity_order
-use Rattle.sdc_model.specs.contracts.pins.PinOrd.TheImpl as pin_order
-use Rattle.sdc_model.specs.contracts.clocks.EarlyOrd.TheImpl as early_order
-use Rattle.sdc_model.specs.contracts.clocks.LatencyOrd.TheImpl as latency_order
-use Rattle.sdc_model.specs.contracts.clocks.FormOrd.TheImpl as form_order
-use Rattle.sdc_model.specs.contracts.clocks.ShapeOrd.TheImpl as shape_order
-use Rattle.sdc_model.specs.contracts.clocks.WaveOrd.TheImpl as wave_order
+use Rattle.timing_types.specs.declared.identities.Definition.{Definition}
+use Rattle.timing_types.specs.declared.clocks.Form.TheVariants.{Primary, Generated}
+use Rattle.timing_types.specs.declared.clocks.Shape.TheVariants.{Divide, Multiply, Edges}
+use Rattle.timing_types.specs.contracts.identities.DefinitionOrd.TheImpl as definition_order
+use Rattle.timing_types.specs.contracts.identities.IdentityOrd.TheImpl as identity_order
+use Rattle.source_types.specs.contracts.pins.PinOrd.TheImpl as pin_order
+use Rattle.timing_types.specs.contracts.clocks.EarlyOrd.TheImpl as early_order
+use Rattle.timing_types.specs.contracts.clocks.LatencyOrd.TheImpl as latency_order
+use Rattle.timing_types.specs.contracts.clocks.FormOrd.TheImpl as form_order
+use Rattle.timing_types.specs.contracts.clocks.ShapeOrd.TheImpl as shape_order
+use Rattle.timing_types.specs.contracts.clocks.WaveOrd.TheImpl as wave_order
 
 -- two steps of an order that end equal are both equal
 pub both_equal : (o p : Ordering) → ordering_then o p ≡ Equal → (o ≡ Equal) × (p ≡ Equal)

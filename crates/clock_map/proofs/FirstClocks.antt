@@ -5,7 +5,7 @@ use Rattle.std.specs.List.{filter, list_any}
 use Rattle.std.proofs.lemmas.Bool.Decides.{nat_tests}
 use Rattle.std.proofs.lemmas.List.{append-nil}
 use Rattle.std.proofs.lemmas.List.Elements.{filter-append}
-use Rattle.sdc_model.specs.declared.clocks.Pair.{Pair}
+use Rattle.timing_types.specs.declared.clocks.Pair.{Pair}
 use Rattle.clock_map.specs.declared.timings.Timing.{Timing}
 use Rattle.clock_map.specs.Timings.{AreFlags, lets_time, pair_unless, others_from, row_from, row, rows_from}
 use Rattle.std.proofs.lemmas.Bool.{cases_eq}

@@ -11,7 +11,7 @@ use Rattle.std.proofs.lemmas.List.{map_more}
 use Rattle.std.proofs.lemmas.List.Elements.{Contains-append_left, Contains-push, Contains-push_cases}
 use Rattle.std.proofs.lemmas.Map.Lookups.{exact_bytes}
 use Rattle.std.proofs.lemmas.Map.Views.{btree_set_contains_iff}
-use Rattle.sdc_model.specs.declared.identities.Standing.{Standing}
+use Rattle.timing_types.specs.declared.identities.Standing.{Standing}
 use Rattle.sdc_model.specs.ClockIdentity.{names_of, numbered_name, IsMergedName}
 use Rattle.clock_map.specs.MergedClocks.{HaveSameNames, HasOneMore}
 

@@ -11,8 +11,8 @@ use Rattle.std.specs.Map.{lookup}
 use Rattle.std.proofs.lemmas.Cmp.{tied_itself}
 use Rattle.std.proofs.lemmas.Option.{slice_get_within}
 use Rattle.std.proofs.lemmas.List.{length_push, take_more, take_all, length-take-le}
-use Rattle.sdc_model.specs.declared.identities.Identity.{Identity}
-use Rattle.sdc_model.specs.contracts.identities.IdentityOrd.TheImpl.Laws as identity_laws
+use Rattle.timing_types.specs.declared.identities.Identity.{Identity}
+use Rattle.timing_types.specs.contracts.identities.IdentityOrd.TheImpl.Laws as identity_laws
 use Rattle.clock_map.specs.Numbering.{RisesTo, AreNumbers, Numbers, identity_cmp}
 use Rattle.clock_map.proofs.Exact.{identity_exact}
 

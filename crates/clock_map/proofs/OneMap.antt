@@ -6,11 +6,11 @@ use Rattle.std.proofs.lemmas.Bool.{cases_lt}
 use Rattle.std.proofs.lemmas.List.{length-append, take_more, take_all}
 use Rattle.std.proofs.lemmas.Option.{slice_get_within, get_or_from_slice_get}
 use Rattle.std.proofs.Math.Seq.{take-append_seam, drop-append_seam}
-use Rattle.sdc_model.specs.declared.clocks.Clock.{Clock}
-use Rattle.sdc_model.specs.declared.clocks.Wave.{Wave}
-use Rattle.sdc_model.specs.declared.identities.Standing.{Standing}
-use Rattle.sdc_model.specs.declared.views.ClockMap.{ClockMap}
-use Rattle.sdc_model.specs.declared.views.View.{View}
+use Rattle.timing_types.specs.declared.clocks.Clock.{Clock}
+use Rattle.timing_types.specs.declared.clocks.Wave.{Wave}
+use Rattle.timing_types.specs.declared.identities.Standing.{Standing}
+use Rattle.timing_types.specs.declared.views.ClockMap.{ClockMap}
+use Rattle.timing_types.specs.declared.views.View.{View}
 use Rattle.sdc_model.specs.ClockIdentity.{master_at, HasDepth, HasDepthAt, names_of, numbered_name, IsFreeName, IsMergedName, clock_with, standings_of, identities_of, IsMerged, IsClockMap}
 use Rattle.sdc_model.specs.PlainViews.{ArePrimary, ModesArePrimary, clock_count}
 use Rattle.clock_map.proofs.MergedLists.{EachMerged}

@@ -5,8 +5,8 @@ use Rattle.std.specs.List.{Contains, list_any}
 use Rattle.std.proofs.lemmas.Bool.{false≢true, cases_lt}
 use Rattle.std.proofs.lemmas.List.Elements.{Contains-append_left, Contains-append_right, Contains-append_cases, Contains-push, Contains-push_cases}
 use Rattle.std.proofs.lemmas.Option.{slice_get_within, get_or_from_slice_get}
-use Rattle.sdc_model.specs.declared.clocks.Pair.{Pair}
-use Rattle.sdc_model.specs.declared.views.View.{View}
+use Rattle.timing_types.specs.declared.clocks.Pair.{Pair}
+use Rattle.timing_types.specs.declared.views.View.{View}
 use Rattle.sdc_model.specs.Exclusive.{ComesBefore, AreExclusivePairs}
 use Rattle.clock_map.specs.declared.timings.Timing.{Timing}
 use Rattle.clock_map.specs.Timings.{AreTimings, lets_time, pair_unless, row_from, row, rows_from}

@@ -1,6 +1,6 @@
 -- Rows of pairs, built from their front.
 use Rattle.std.proofs.Common.{◌≡◌, ℕ, suc, ◌+◌, ◌-◌, ◌<◌, Bool, false, List, ◌++◌, get_or, sym, ap, ◌∙◌, append_assoc, add-one, arith}
-use Rattle.sdc_model.specs.declared.clocks.Pair.{Pair}
+use Rattle.timing_types.specs.declared.clocks.Pair.{Pair}
 use Rattle.clock_map.specs.declared.timings.Timing.{Timing}
 use Rattle.clock_map.specs.Timings.{pair_unless, others_from, row, rows_from}
 

@@ -6,15 +6,15 @@ use Rattle.std.specs.List.{AllZip, concat}
 use Rattle.std.proofs.lemmas.Bool.{cases_lt}
 use Rattle.std.proofs.lemmas.List.{length-append, length-map}
 use Rattle.std.proofs.lemmas.Option.{slice_get_within}
-use Rattle.sdc_model.specs.declared.clocks.Clock.{Clock}
-use Rattle.sdc_model.specs.declared.clocks.Wave.{Wave}
-use Rattle.sdc_model.specs.declared.clocks.Form.{Form}
-use Rattle.sdc_model.specs.declared.clocks.Form.TheVariants.{Primary, Generated}
-use Rattle.sdc_model.specs.declared.views.Arrivals.{Arrivals}
-use Rattle.sdc_model.specs.declared.views.View.{View}
-use Rattle.sdc_model.specs.declared.views.ClockMap.{ClockMap}
-use Rattle.sdc_model.specs.declared.identities.Standing.{Standing}
-use Rattle.sdc_model.specs.declared.identities.Identity.{Identity}
+use Rattle.timing_types.specs.declared.clocks.Clock.{Clock}
+use Rattle.timing_types.specs.declared.clocks.Wave.{Wave}
+use Rattle.timing_types.specs.declared.clocks.Form.{Form}
+use Rattle.timing_types.specs.declared.clocks.Form.TheVariants.{Primary, Generated}
+use Rattle.timing_types.specs.declared.views.Arrivals.{Arrivals}
+use Rattle.timing_types.specs.declared.views.View.{View}
+use Rattle.timing_types.specs.declared.views.ClockMap.{ClockMap}
+use Rattle.timing_types.specs.declared.identities.Standing.{Standing}
+use Rattle.timing_types.specs.declared.identities.Identity.{Identity}
 use Rattle.sdc_model.specs.ClockIdentity.{merged_form, definition_of, standings_from, mode_standings, identities_among, identity_among, standings_of, identities_of, master_of, HasDepthAt, IsFirstAt, IsClockMap}
 use Rattle.sdc_model.specs.PlainViews.{IsPrimary, ArePrimary, ModesArePrimary, HaveWaves, clock_count}
 use Rattle.clock_map.specs.Numbering.{RisesTo, AreNumbers}

@@ -9,14 +9,14 @@ use Rattle.std.specs.List.Sorted.{IsSortedBy, IsSorted, IsPartitionedBy, IsPermu
 use Rattle.std.proofs.lemmas.List.Sorted.{searchable_from_sorted, sum_by-IsPermutation}
 use Rattle.std.proofs.lemmas.List.Sums.{sum_by-cons}
 use Rattle.std.proofs.lemmas.List.{map_more}
-use Rattle.sdc_model.specs.declared.identities.Definition.{Definition}
-use Rattle.sdc_model.specs.declared.identities.Standing.{Standing}
-use Rattle.sdc_model.specs.declared.identities.Identity.{Identity}
+use Rattle.timing_types.specs.declared.identities.Definition.{Definition}
+use Rattle.timing_types.specs.declared.identities.Standing.{Standing}
+use Rattle.timing_types.specs.declared.identities.Identity.{Identity}
 use Rattle.sdc_model.specs.ClockIdentity.{rank_among, same_definition, is_ahead, identity_among}
-use Rattle.sdc_model.specs.contracts.identities.DefinitionOrd.TheImpl as definition_order
-use Rattle.sdc_model.specs.contracts.identities.DefinitionOrd.TheImpl.Laws as definition_laws
-use Rattle.sdc_model.specs.contracts.identities.StandingOrd.TheImpl as standing_order
-use Rattle.sdc_model.specs.contracts.identities.StandingOrd.TheImpl.Laws as standing_laws
+use Rattle.timing_types.specs.contracts.identities.DefinitionOrd.TheImpl as definition_order
+use Rattle.timing_types.specs.contracts.identities.DefinitionOrd.TheImpl.Laws as definition_laws
+use Rattle.timing_types.specs.contracts.identities.StandingOrd.TheImpl as standing_order
+use Rattle.timing_types.specs.contracts.identities.StandingOrd.TheImpl.Laws as standing_laws
 
 abbrev pub definition_cmp : Definition → Definition → Ordering
 definition_cmp = (definition_order.ghosts).cmp

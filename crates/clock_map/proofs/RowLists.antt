@@ -2,7 +2,7 @@
 use Rattle.std.proofs.Common.{◌≡◌, ℕ, ◌+◌, ◌-◌, ◌<◌, ◌≤◌, List, [], ◌∷◌, ◌++◌, length, take, drop, get_or, sym, ap, ◌∙◌, append_assoc, arith}
 use Rattle.std.specs.List.{concat, AllZip}
 use Rattle.std.proofs.lemmas.List.{take-append-drop, append-nil, drop-drop, drop_more, take_more, length-take-le, length-drop}
-use Rattle.sdc_model.specs.declared.views.View.{View}
+use Rattle.timing_types.specs.declared.views.View.{View}
 use Rattle.sdc_model.specs.PlainViews.{clock_count}
 
 pub concat_push : (rows : List (List ℕ)) (row : List ℕ) → concat (rows ++ row ∷ []) ≡ concat rows ++ row

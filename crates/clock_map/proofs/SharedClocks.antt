@@ -5,12 +5,12 @@ use Rattle.std.specs.List.{concat, Contains, AllZip}
 use Rattle.std.proofs.lemmas.List.{length-map}
 use Rattle.std.proofs.lemmas.Option.{slice_get_within, slice_get-map, get_or_from_slice_get}
 use Rattle.std.specs.Option.{option_map}
-use Rattle.sdc_model.specs.declared.clocks.Clock.{Clock}
-use Rattle.sdc_model.specs.declared.clocks.Wave.{Wave}
-use Rattle.sdc_model.specs.declared.views.Arrivals.{Arrivals}
-use Rattle.sdc_model.specs.declared.views.View.{View}
-use Rattle.sdc_model.specs.declared.views.ClockMap.{ClockMap}
-use Rattle.sdc_model.specs.declared.identities.Standing.{Standing}
+use Rattle.timing_types.specs.declared.clocks.Clock.{Clock}
+use Rattle.timing_types.specs.declared.clocks.Wave.{Wave}
+use Rattle.timing_types.specs.declared.views.Arrivals.{Arrivals}
+use Rattle.timing_types.specs.declared.views.View.{View}
+use Rattle.timing_types.specs.declared.views.ClockMap.{ClockMap}
+use Rattle.timing_types.specs.declared.identities.Standing.{Standing}
 use Rattle.sdc_model.specs.ClockIdentity.{merged_form, definition_of, standings_from, mode_standings, identity_among, identities_among, identities_of, IsClockMap}
 use Rattle.sdc_model.specs.PlainViews.{ArePrimary, ModesArePrimary, HaveWaves, without_line, HaveSameClocks}
 use Rattle.sdc_model.specs.Exclusive.{IsApart, AreApart}

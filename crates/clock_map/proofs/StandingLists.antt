@@ -1,13 +1,13 @@
 -- The clocks of modes without generated clocks, as ranks see them.
 use Rattle.std.proofs.Common.{◌≡◌, ℕ, zero, suc, ◌+◌, ◌<◌, List, [], ◌∷◌, ◌++◌, length, drop, get_or, refl, sym, ap, ◌∙◌, subst, append_assoc, add-one, arith}
 use Rattle.std.proofs.lemmas.List.{drop_more}
-use Rattle.sdc_model.specs.declared.clocks.Clock.{Clock}
-use Rattle.sdc_model.specs.declared.clocks.Wave.{Wave}
-use Rattle.sdc_model.specs.declared.clocks.Form.{Form}
-use Rattle.sdc_model.specs.declared.clocks.Form.TheVariants.{Primary, Generated}
-use Rattle.sdc_model.specs.declared.views.Arrivals.{Arrivals}
-use Rattle.sdc_model.specs.declared.views.View.{View}
-use Rattle.sdc_model.specs.declared.identities.Standing.{Standing}
+use Rattle.timing_types.specs.declared.clocks.Clock.{Clock}
+use Rattle.timing_types.specs.declared.clocks.Wave.{Wave}
+use Rattle.timing_types.specs.declared.clocks.Form.{Form}
+use Rattle.timing_types.specs.declared.clocks.Form.TheVariants.{Primary, Generated}
+use Rattle.timing_types.specs.declared.views.Arrivals.{Arrivals}
+use Rattle.timing_types.specs.declared.views.View.{View}
+use Rattle.timing_types.specs.declared.identities.Standing.{Standing}
 use Rattle.sdc_model.specs.ClockIdentity.{merged_form, definition_of, standings_from, mode_standings}
 use Rattle.sdc_model.specs.PlainViews.{IsPrimary, ArePrimary}
 

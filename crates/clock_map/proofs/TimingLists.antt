@@ -2,7 +2,7 @@
 use Rattle.std.proofs.Common.{◌≡◌, ℕ, zero, suc, ◌+◌, ◌<◌, ◌≤◌, List, [], ◌∷◌, ◌++◌, length, take, get_or, refl, sym, ap, ◌∙◌, subst, arith}
 use Rattle.std.proofs.lemmas.List.{take_more, take_all, length-take-le}
 use Rattle.std.proofs.lemmas.List.Elements.{All-nil, All-cons}
-use Rattle.sdc_model.specs.declared.views.View.{View}
+use Rattle.timing_types.specs.declared.views.View.{View}
 use Rattle.sdc_model.specs.Exclusive.{IsApart, AreApart}
 use Rattle.clock_map.specs.declared.timings.Timing.{Timing}
 use Rattle.clock_map.specs.Timings.{ArePlaces, HoldsPairs, IsTiming, AreTimings, FitsClocks, AllFit}

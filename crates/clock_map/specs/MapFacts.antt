@@ -2,10 +2,10 @@
 -- There is one clock map, and one list of exclusive pairs. It reads as laws of the definitions of both.
 use Rattle.std.specs.Prelude.{◌≡◌, ◌<◌, ℕ, List, Some, slice_get}
 use Rattle.std.specs.List.{Contains, concat}
-use Rattle.sdc_model.specs.declared.clocks.Clock.{Clock}
-use Rattle.sdc_model.specs.declared.clocks.Pair.{Pair}
-use Rattle.sdc_model.specs.declared.views.View.{View}
-use Rattle.sdc_model.specs.declared.views.ClockMap.{ClockMap}
+use Rattle.timing_types.specs.declared.clocks.Clock.{Clock}
+use Rattle.timing_types.specs.declared.clocks.Pair.{Pair}
+use Rattle.timing_types.specs.declared.views.View.{View}
+use Rattle.timing_types.specs.declared.views.ClockMap.{ClockMap}
 use Rattle.sdc_model.specs.ClockIdentity.{IsClockMap}
 use Rattle.sdc_model.specs.Exclusive.{AreExclusivePairs}
 use Rattle.sdc_model.specs.PlainViews.{HaveSameClocks}

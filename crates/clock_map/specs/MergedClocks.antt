@@ -2,9 +2,9 @@
 -- The same names stand in a set and in a list where each name is in both or in neither.
 use Rattle.std.specs.Prelude.{◌≡◌, ◌<◌, ◌⊎◌, ◌↔◌, ℕ, List, [], ◌∷◌, ◌++◌, length, map, take, Some, slice_get}
 use Rattle.std.specs.List.{All, Contains}
-use Rattle.sdc_model.specs.declared.clocks.Clock.{Clock}
-use Rattle.sdc_model.specs.declared.clocks.Wave.{Wave}
-use Rattle.sdc_model.specs.declared.identities.Standing.{Standing}
+use Rattle.timing_types.specs.declared.clocks.Clock.{Clock}
+use Rattle.timing_types.specs.declared.clocks.Wave.{Wave}
+use Rattle.timing_types.specs.declared.identities.Standing.{Standing}
 use Rattle.sdc_model.specs.ClockIdentity.{IsMergedName, IsMerged, clock_with}
 use Rattle.clock_map.specs.declared.merged.Merged.{Merged}
 use Rattle.clock_map.specs.Numbering.{RisesTo}

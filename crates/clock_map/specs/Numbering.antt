@@ -4,9 +4,9 @@ use Rattle.std.specs.Prelude.{◌≡◌, ◌+◌, ◌<◌, ◌⊎◌, ◌↔◌,
 use Rattle.std.specs.declared.cmp.Ordering.{Ordering}
 use Rattle.std.specs.BTreeMap.{BTreeMap, get, Updates, IsUnchanged, btree_map_len}
 use Rattle.std.specs.List.{AllZip}
-use Rattle.sdc_model.specs.declared.views.View.{View}
-use Rattle.sdc_model.specs.declared.identities.Identity.{Identity}
-use Rattle.sdc_model.specs.contracts.identities.IdentityOrd.TheImpl as identity_order
+use Rattle.timing_types.specs.declared.views.View.{View}
+use Rattle.timing_types.specs.declared.identities.Identity.{Identity}
+use Rattle.timing_types.specs.contracts.identities.IdentityOrd.TheImpl as identity_order
 
 -- numbers of which those below `next` are known, and `last` behind them all
 abbrev pub RisesTo : ℕ → List ℕ → ℕ → Type 0

@@ -2,8 +2,8 @@
 -- The pairs of merged clocks stand in rows, one for each first clock.
 use Rattle.std.specs.Prelude.{◌≡◌, ◌+◌, ◌-◌, ◌<◌, ◌++◌, ◌↔◌, ◌==◌, ◌&&◌, ◌||◌, ℕ, zero, suc, Bool, false, not, List, [], ◌∷◌, length, min, max, Option, Some, None, slice_get, slice_index_or, IsTrue, if◌then◌else◌}
 use Rattle.std.specs.List.{All, Contains, list_any}
-use Rattle.sdc_model.specs.declared.clocks.Pair.{Pair}
-use Rattle.sdc_model.specs.declared.views.View.{View}
+use Rattle.timing_types.specs.declared.clocks.Pair.{Pair}
+use Rattle.timing_types.specs.declared.views.View.{View}
 use Rattle.clock_map.specs.declared.timings.Timing.{Timing}
 
 abbrev pub same_pair : ℕ × ℕ → ℕ × ℕ → Bool

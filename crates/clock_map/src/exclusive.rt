@@ -39,7 +39,7 @@ pub struct ExclusiveRows {
 
 impl Model for ExclusiveRows {
     ghost use Rattle.std.specs.Prelude.{List};
-    ghost use Rattle.sdc_model.specs.declared.clocks.Pair.{Pair};
+    ghost use Rattle.timing_types.specs.declared.clocks.Pair.{Pair};
     ghost use Rattle.clock_map.specs.Timings.{AllFit, rows_from};
 
     ghost Value = { List Pair };

@@ -1,8 +1,8 @@
 //! What is true of every clock map and of every list of exclusive pairs, whoever found them.
 
 ghost use Rattle.std.specs.Prelude.{ℕ, List};
-ghost use Rattle.sdc_model.specs.declared.views.View.{View};
-ghost use Rattle.sdc_model.specs.declared.views.ClockMap.{ClockMap};
+ghost use Rattle.timing_types.specs.declared.views.View.{View};
+ghost use Rattle.timing_types.specs.declared.views.ClockMap.{ClockMap};
 ghost use Rattle.sdc_model.specs.ClockIdentity.{IsClockMap};
 ghost use Rattle.sdc_model.specs.PlainViews.{ModesArePrimary, HaveWaves};
 ghost use Rattle.sdc_model.specs.Exclusive.{AreApart};

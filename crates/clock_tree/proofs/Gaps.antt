@@ -5,7 +5,7 @@ use Rattle.std.proofs.lemmas.Int.{ints, by_lt_z}
 use Rattle.std.specs.Int.{IsGcd}
 use Rattle.sdc_model.specs.Relation.{IsGap, IsSetup, IsHold, IsRelation}
 use Rattle.clock_tree.proofs.Divisor.{IsDifference, IsDifference-from_IsGcd}
-use Rattle.sdc_model.specs.declared.edge_times.Relation.{Relation}
+use Rattle.timing_types.specs.declared.edge_times.Relation.{Relation}
 
 -- d is b - a, but for whole g
 pub record IsShifted (a b g : ℕ) (d : ℤ) : Type 0 where

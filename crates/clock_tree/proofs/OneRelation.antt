@@ -2,7 +2,7 @@
 use Rattle.std.proofs.Common.{◌≡◌, ℤ, ◌∙◌, ap, arith}
 use Rattle.std.proofs.lemmas.Int.{ints}
 use Rattle.sdc_model.specs.Relation.{IsRelation, IsSetup, IsHold}
-use Rattle.sdc_model.specs.declared.edge_times.Relation.{Relation}
+use Rattle.timing_types.specs.declared.edge_times.Relation.{Relation}
 
 same_setup : (a p b q d e : ℤ) → IsSetup a p b q d → IsSetup a p b q e → d ≡ e
 same_setup a p b q d e g h = let le = g.2 e h.0 h.1 in let ge = h.2 d g.0 g.1 in omega (arith, ints)

@@ -6,7 +6,7 @@ use Rattle.std.proofs.lemmas.Int.{ints, int_rem_euclid_is, to_z-of_z}
 use Rattle.std.proofs.lemmas.Nat.Gcd.{le_of_dvd}
 use Rattle.std.specs.Int.{IsGcd, IsNonNegative, int_rem_euclid}
 use Rattle.sdc_model.specs.Relation.{IsEdgeOf, IsRelation}
-use Rattle.sdc_model.specs.declared.edge_times.Relation.{Relation}
+use Rattle.timing_types.specs.declared.edge_times.Relation.{Relation}
 use Rattle.clock_tree.proofs.Gaps.{IsShifted, IsRelation-from_shifted}
 
 -- one more than the remainder, in ℕ: m is `b - a - 1`, with so many g that it is no less than 0

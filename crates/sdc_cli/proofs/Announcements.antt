@@ -7,12 +7,12 @@ use Rattle.sdc_base.specs.Counting.{Rose}
 use Rattle.sdc_base.specs.Files.{Reading}
 use Rattle.sdc_base.specs.declared.outside.Channel.TheVariants.{Faults}
 use Rattle.sdc_base.specs.declared.outside.Refusal.{Refusal}
-use Rattle.sdc_model.specs.declared.answers.Status.{Status}
-use Rattle.sdc_model.specs.declared.answers.Status.TheVariants as status
-use Rattle.sdc_model.specs.declared.command_lines.CommandLine.{CommandLine}
-use Rattle.sdc_model.specs.declared.command_lines.CommandLine.TheVariants.{Edges, Merge}
-use Rattle.sdc_model.specs.declared.command_lines.Output.{Output}
-use Rattle.sdc_model.specs.declared.kinds.Fault.{Fault}
+use Rattle.source_types.specs.declared.answers.Status.{Status}
+use Rattle.source_types.specs.declared.answers.Status.TheVariants as status
+use Rattle.source_types.specs.declared.command_lines.CommandLine.{CommandLine}
+use Rattle.source_types.specs.declared.command_lines.CommandLine.TheVariants.{Edges, Merge}
+use Rattle.source_types.specs.declared.command_lines.Output.{Output}
+use Rattle.source_types.specs.declared.kinds.Fault.{Fault}
 use Rattle.sdc_model.specs.Answers.{CauseFits, LeavesReading, LeavesWritten, OnTold, ReadFaultFits, TooLargeFits, UsageFits, WriteFaultFits}
 use Rattle.sdc_model.specs.FaultLine.{HasFront, LeavesFaults, fault_line, with_faults}
 use Rattle.sdc_cli.specs.Announced.{Announces, EndsAs}

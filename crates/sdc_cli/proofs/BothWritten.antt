@@ -3,7 +3,7 @@ use Rattle.std.proofs.Common.{◌≡◌, ℕ, List, [], Option, Some, None, Resu
 use Rattle.sdc_base.specs.Channels.{Written, Creates, WritesAll, appended}
 use Rattle.sdc_base.specs.declared.outside.Channel.TheVariants.{Report, Merged}
 use Rattle.sdc_base.specs.declared.outside.Refusal.{Refusal}
-use Rattle.sdc_model.specs.declared.command_lines.Output.{Output}
+use Rattle.source_types.specs.declared.command_lines.Output.{Output}
 use Rattle.sdc_model.specs.Answers.{OnTold}
 use Rattle.sdc_cli.specs.Steps.{WritesBoth}
 

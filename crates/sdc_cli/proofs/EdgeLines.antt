@@ -1,10 +1,10 @@
 -- Edges of clocks with times, and lines of a report that are joined at their end.
 use Rattle.std.proofs.Math.Seq.{drop-cons}
 use Rattle.std.proofs.Common.{◌≡◌, ◌+◌, ◌<◌, suc, add-one, length, get_or, drop, ℕ, List, [], ◌∷◌, ◌++◌, refl, sym, ◌∙◌, ap, append_assoc, append-nil, subst, codes}
-use Rattle.sdc_model.specs.declared.clocks.Clock.{Clock}
-use Rattle.sdc_model.specs.declared.edge_times.Relation.{Relation}
-use Rattle.sdc_model.specs.declared.edge_times.TimedEdge.{TimedEdge}
-use Rattle.sdc_model.specs.declared.modes.Mode.{Mode}
+use Rattle.timing_types.specs.declared.clocks.Clock.{Clock}
+use Rattle.timing_types.specs.declared.edge_times.Relation.{Relation}
+use Rattle.timing_types.specs.declared.edge_times.TimedEdge.{TimedEdge}
+use Rattle.timing_types.specs.declared.modes.Mode.{Mode}
 use Rattle.sdc_model.specs.Relation.{IsRelation}
 use Rattle.sdc_model.specs.EdgesText.{clock_edges, AreTimed, HaveTimes, Appends, AreLinesFrom, AreLines, AreReports, IsReport, edge_line, edge_text, relation_text}
 use Rattle.sdc_cli.specs.LineParts.{front_text, line_rest}

@@ -7,7 +7,7 @@ use Rattle.std.specs.List.{list_any, AllByRecursion}
 use Rattle.std.specs.List.Sorted.{IsStrictlySortedBy}
 use Rattle.std.specs.Result.{IfOk}
 use Rattle.std.specs.declared.cmp.Ordering.TheVariants.{Less}
-use Rattle.sdc_model.specs.declared.clocks.Pair.{Pair}
+use Rattle.timing_types.specs.declared.clocks.Pair.{Pair}
 use Rattle.sdc_model.specs.ClockGroups.{Groups, is_among, is_parted, pairs_from, exclusive_pairs}
 use Rattle.sdc_cli.specs.Exclusive.{GroupsBelow, HasMore, HasSame, has_pair, pair_cmp, parts, parts_some, parts_any, parts_in}
 use Rattle.clock_map.proofs.RisingPairs.{AllAfter, Rising, Among, same_lists}

@@ -2,8 +2,8 @@
 use Rattle.std.proofs.Common.{◌≡◌, ◌<◌, ◌≤◌, ◌==◌, ◌+◌, ℕ, suc, Bool, true, false, cond, List, [], ◌∷◌, ◌++◌, length, Option, Some, None, refl, subst, arith, inl, inr}
 use Rattle.std.proofs.lemmas.Bool.{eqb-true, or_cases}
 use Rattle.std.specs.Option.{option_and_then}
-use Rattle.sdc_model.specs.declared.clocks.Clock.{Clock}
-use Rattle.sdc_model.specs.declared.commands.Part.{Part}
+use Rattle.timing_types.specs.declared.clocks.Clock.{Clock}
+use Rattle.source_types.specs.declared.commands.Part.{Part}
 use Rattle.sdc_model.specs.ClockGroups.{Groups, is_among, group_of, names_text, place_from, places_in, places_of}
 use Rattle.sdc_model.specs.ListReading.{items_of}
 use Rattle.sdc_model.specs.Words.{same_text}

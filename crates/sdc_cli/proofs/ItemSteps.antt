@@ -8,7 +8,7 @@ use Rattle.std.specs.Result.{result_ok}
 use Rattle.std.specs.Str.{IsUtf8, IsCharBoundary}
 use Rattle.sdc_model.specs.Bytes.{is_blank}
 use Rattle.sdc_model.specs.ClockGroups.{behind_blanks}
-use Rattle.sdc_model.specs.declared.kinds.TclKind.{TclKind}
+use Rattle.source_types.specs.declared.kinds.TclKind.{TclKind}
 use Rattle.sdc_model.specs.ListItems.{Lists}
 use Rattle.sdc_model.specs.ListReading.{items_of}
 use Rattle.tcl_words.proofs.ListRead.{list_of_is}

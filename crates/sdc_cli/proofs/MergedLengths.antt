@@ -1,11 +1,11 @@
 -- The length of a merged text: that of the file of the merged clocks alone, and those of the lines of their groups.
 use Rattle.std.proofs.Common.{◌≡◌, ◌∙◌, ℕ, ◌+◌, List, [], length, refl, sym, ap, inr, subst}
 use Rattle.sdc_base.specs.Time.{IsUnit}
-use Rattle.sdc_model.specs.declared.clocks.Pair.{Pair}
-use Rattle.sdc_model.specs.declared.designs.Design.{Design}
-use Rattle.sdc_model.specs.declared.merges.Merged.{Merged}
-use Rattle.sdc_model.specs.declared.modes.Mode.{Mode}
-use Rattle.sdc_model.specs.declared.views.ClockMap.{ClockMap}
+use Rattle.timing_types.specs.declared.clocks.Pair.{Pair}
+use Rattle.timing_types.specs.declared.designs.Design.{Design}
+use Rattle.timing_types.specs.declared.merges.Merged.{Merged}
+use Rattle.timing_types.specs.declared.modes.Mode.{Mode}
+use Rattle.timing_types.specs.declared.views.ClockMap.{ClockMap}
 use Rattle.sdc_model.specs.ClockIdentity.{IsClockMap}
 use Rattle.sdc_model.specs.Exclusive.{AreExclusivePairs}
 use Rattle.sdc_model.specs.MergedMode.{IsMergeOf}

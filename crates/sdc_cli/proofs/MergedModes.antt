@@ -1,8 +1,8 @@
 -- What printable modes have, one behind the other, and what their merged mode has.
 use Rattle.std.proofs.Common.{◌≡◌, ◌++◌, ◌+◌, ℕ, List, [], ◌∷◌, length, arith}
 use Rattle.std.specs.List.{AllZip}
-use Rattle.sdc_model.specs.declared.modes.Mode.{Mode}
-use Rattle.sdc_model.specs.declared.views.ClockMap.{ClockMap}
+use Rattle.timing_types.specs.declared.modes.Mode.{Mode}
+use Rattle.timing_types.specs.declared.views.ClockMap.{ClockMap}
 use Rattle.sdc_model.specs.ClockIdentity.{IsClockMap}
 use Rattle.sdc_model.specs.EdgesText.{ModesHaveTimes}
 use Rattle.sdc_model.specs.PlainViews.{clocks_in, views_of}

@@ -6,12 +6,12 @@ use Rattle.sdc_base.specs.declared.memory.At.{At}
 use Rattle.sdc_base.specs.declared.whole.TheConstants.{MOST_BYTES}
 use Rattle.sdc_base.specs.Files.{Reading, bytes_of, ReadsWhole}
 use Rattle.sdc_base.specs.declared.outside.NamedBytes.{NamedBytes}
-use Rattle.sdc_model.specs.declared.answers.Status.{Status}
-use Rattle.sdc_model.specs.declared.answers.Status.TheVariants as status
-use Rattle.sdc_model.specs.declared.command_lines.CommandLine.{CommandLine}
-use Rattle.sdc_model.specs.declared.kinds.Fault.{Fault}
-use Rattle.sdc_model.specs.declared.kinds.Kind.{Kind}
-use Rattle.sdc_model.specs.declared.modes.Mode.{Mode}
+use Rattle.source_types.specs.declared.answers.Status.{Status}
+use Rattle.source_types.specs.declared.answers.Status.TheVariants as status
+use Rattle.source_types.specs.declared.command_lines.CommandLine.{CommandLine}
+use Rattle.source_types.specs.declared.kinds.Fault.{Fault}
+use Rattle.source_types.specs.declared.kinds.Kind.{Kind}
+use Rattle.timing_types.specs.declared.modes.Mode.{Mode}
 use Rattle.sdc_model.specs.ModeFiles.{SayModes, SaysFile, with_first}
 use Rattle.sdc_model.specs.Answers.{OnTold, FailsReading, files_of, first_place, most_clocks}
 use Rattle.sdc_cli.specs.ModeBytes.{SaysAtMost}

@@ -4,15 +4,15 @@ use Rattle.std.specs.Prelude.{◌+◌, suc, nat_le, if◌then◌else◌, IfOk}
 use Rattle.sdc_base.specs.declared.outside.NamedBytes.{NamedBytes}
 use Rattle.sdc_base.specs.declared.whole.TheConstants.{MOST_BYTES}
 use Rattle.sdc_base.specs.Files.{Reading, bytes_of}
-use Rattle.sdc_model.specs.declared.command_lines.CommandLine.{CommandLine}
-use Rattle.sdc_model.specs.declared.command_lines.CommandLine.TheVariants.{Edges, Merge}
-use Rattle.sdc_model.specs.declared.command_lines.Output.{Output}
-use Rattle.sdc_model.specs.declared.kinds.Fault.{Fault}
-use Rattle.sdc_model.specs.declared.kinds.Kind.{Kind}
-use Rattle.sdc_model.specs.declared.kinds.Kind.TheVariants.{Sdc}
-use Rattle.sdc_model.specs.declared.kinds.SdcKind.TheVariants.{TooMany}
-use Rattle.sdc_model.specs.declared.merges.Merged.{Merged}
-use Rattle.sdc_model.specs.declared.modes.Mode.{Mode}
+use Rattle.source_types.specs.declared.command_lines.CommandLine.{CommandLine}
+use Rattle.source_types.specs.declared.command_lines.CommandLine.TheVariants.{Edges, Merge}
+use Rattle.source_types.specs.declared.command_lines.Output.{Output}
+use Rattle.source_types.specs.declared.kinds.Fault.{Fault}
+use Rattle.source_types.specs.declared.kinds.Kind.{Kind}
+use Rattle.source_types.specs.declared.kinds.Kind.TheVariants.{Sdc}
+use Rattle.source_types.specs.declared.kinds.SdcKind.TheVariants.{TooMany}
+use Rattle.timing_types.specs.declared.merges.Merged.{Merged}
+use Rattle.timing_types.specs.declared.modes.Mode.{Mode}
 use Rattle.sdc_model.specs.Answers.{LineModes, files_of, first_place, most_clocks}
 use Rattle.sdc_model.specs.ClockFile.{SaysMode}
 use Rattle.sdc_model.specs.EdgesText.{AreReports}

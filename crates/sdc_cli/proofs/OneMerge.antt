@@ -1,10 +1,10 @@
 -- Modes have one merged mode: its clocks and its exclusive pairs are determined, and it has no other part.
 use Rattle.std.proofs.Common.{◌≡◌, ◌∙◌, ℕ, List, [], length, sym, ap, subst}
-use Rattle.sdc_model.specs.declared.clocks.Clock.{Clock}
-use Rattle.sdc_model.specs.declared.clocks.Pair.{Pair}
-use Rattle.sdc_model.specs.declared.merges.Merged.{Merged}
-use Rattle.sdc_model.specs.declared.modes.Mode.{Mode}
-use Rattle.sdc_model.specs.declared.views.ClockMap.{ClockMap}
+use Rattle.timing_types.specs.declared.clocks.Clock.{Clock}
+use Rattle.timing_types.specs.declared.clocks.Pair.{Pair}
+use Rattle.timing_types.specs.declared.merges.Merged.{Merged}
+use Rattle.timing_types.specs.declared.modes.Mode.{Mode}
+use Rattle.timing_types.specs.declared.views.ClockMap.{ClockMap}
 use Rattle.sdc_model.specs.Exclusive.{AreExclusivePairs}
 use Rattle.sdc_model.specs.MergedMode.{IsMergeOf}
 use Rattle.sdc_model.specs.PlainViews.{views_of}

@@ -3,10 +3,10 @@ use Rattle.std.proofs.Common.{◌≡◌, ◌∙◌, ◌≤◌, ◌<◌, ◌+◌,
 use Rattle.sdc_base.specs.declared.outside.NamedBytes.{NamedBytes}
 use Rattle.sdc_base.specs.declared.whole.TheConstants.{MOST_BYTES}
 use Rattle.sdc_base.specs.Files.{bytes_of}
-use Rattle.sdc_model.specs.declared.command_lines.CommandLine.{CommandLine}
-use Rattle.sdc_model.specs.declared.kinds.Fault.{Fault}
-use Rattle.sdc_model.specs.declared.kinds.Kind.{Kind}
-use Rattle.sdc_model.specs.declared.modes.Mode.{Mode}
+use Rattle.source_types.specs.declared.command_lines.CommandLine.{CommandLine}
+use Rattle.source_types.specs.declared.kinds.Fault.{Fault}
+use Rattle.source_types.specs.declared.kinds.Kind.{Kind}
+use Rattle.timing_types.specs.declared.modes.Mode.{Mode}
 use Rattle.sdc_model.specs.Answers.{files_of, first_place, most_clocks}
 use Rattle.sdc_model.specs.ClockFile.{SaysMode, mode_of}
 use Rattle.sdc_model.specs.ModeFiles.{Continues, IsFaultAt, SayModes, SaysFile, with_first, within_limit}

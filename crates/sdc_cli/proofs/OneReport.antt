@@ -1,8 +1,8 @@
 -- Modes have one text of edges, since two edges have one relation.
 use Rattle.std.proofs.Common.{◌≡◌, ◌∙◌, ◌++◌, ℕ, List, [], ◌∷◌, sym, ap}
-use Rattle.sdc_model.specs.declared.edge_times.Relation.{Relation}
-use Rattle.sdc_model.specs.declared.edge_times.TimedEdge.{TimedEdge}
-use Rattle.sdc_model.specs.declared.modes.Mode.{Mode}
+use Rattle.timing_types.specs.declared.edge_times.Relation.{Relation}
+use Rattle.timing_types.specs.declared.edge_times.TimedEdge.{TimedEdge}
+use Rattle.timing_types.specs.declared.modes.Mode.{Mode}
 use Rattle.sdc_model.specs.EdgesText.{AreLines, AreLinesFrom, clock_edges, edge_line}
 use Rattle.clock_tree.proofs.OneRelation.{relation_once}
 use Rattle.sdc_cli.specs.Laws.{HaveOneReport}

@@ -1,7 +1,7 @@
 -- The list of all exclusive pairs rises, and has just the pairs of clocks that some command parts.
 use Rattle.std.proofs.Common.{◌≡◌, ◌<◌, ◌≤◌, ◌==◌, ◌+◌, ◌⊎◌, inl, inr, ℕ, zero, suc, Bool, true, false, cond, List, [], ◌∷◌, ◌++◌, refl, sym, ◌∙◌, ap, arith}
 use Rattle.std.proofs.lemmas.Bool.Decides.{Decides-eqb, nat_tests}
-use Rattle.sdc_model.specs.declared.clocks.Pair.{Pair}
+use Rattle.timing_types.specs.declared.clocks.Pair.{Pair}
 use Rattle.sdc_model.specs.ClockGroups.{Groups, is_parted, pairs_with, pairs_from}
 use Rattle.clock_map.proofs.RisingPairs.{Before, AllAfter, Rising, Among}
 

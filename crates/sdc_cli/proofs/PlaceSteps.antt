@@ -8,7 +8,7 @@ use Rattle.std.specs.Option.{is_some}
 use Rattle.std.specs.Ordering.{nat_cmp}
 use Rattle.std.specs.Str.{bytes_eq}
 use Rattle.std.specs.String.{string_bytes, string_cmp}
-use Rattle.sdc_model.specs.declared.clocks.Clock.{Clock}
+use Rattle.timing_types.specs.declared.clocks.Clock.{Clock}
 use Rattle.sdc_model.specs.ClockFile.{is_taken}
 use Rattle.sdc_model.specs.ClockGroups.{place_from}
 use Rattle.sdc_model.specs.Words.{same_text}

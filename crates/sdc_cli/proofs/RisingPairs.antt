@@ -4,7 +4,7 @@ use Rattle.std.proofs.lemmas.Bool.Decides.{nat_tests}
 use Rattle.std.specs.BTreeMap.{is_at}
 use Rattle.std.specs.Ordering.{is_eq, nat_cmp, ordering_then}
 use Rattle.std.specs.declared.cmp.Ordering.TheVariants.{Less}
-use Rattle.sdc_model.specs.declared.clocks.Pair.{Pair}
+use Rattle.timing_types.specs.declared.clocks.Pair.{Pair}
 use Rattle.clock_map.proofs.RisingPairs.{Before}
 use Rattle.sdc_cli.specs.Exclusive.{pair_cmp, parts}
 

@@ -8,15 +8,15 @@ use Rattle.std.specs.Prelude.{nat_lt, nat_le, if◌then◌else◌}
 use Rattle.std.specs.Option.{IfSome, option_and_then}
 use Rattle.sdc_base.specs.declared.memory.At.{At}
 use Rattle.sdc_base.specs.Number.{read_number}
-use Rattle.sdc_model.specs.declared.clocks.Clock.{Clock}
-use Rattle.sdc_model.specs.declared.clocks.Form.{Form}
-use Rattle.sdc_model.specs.declared.clocks.Form.TheVariants.{Primary}
-use Rattle.sdc_model.specs.declared.clocks.Wave.{Wave}
-use Rattle.sdc_model.specs.declared.commands.Command.{Command}
-use Rattle.sdc_model.specs.declared.commands.Part.{Part}
-use Rattle.sdc_model.specs.declared.commands.Word.{Word}
-use Rattle.sdc_model.specs.declared.kinds.TclKind.{TclKind}
-use Rattle.sdc_model.specs.declared.modes.Mode.{Mode}
+use Rattle.timing_types.specs.declared.clocks.Clock.{Clock}
+use Rattle.timing_types.specs.declared.clocks.Form.{Form}
+use Rattle.timing_types.specs.declared.clocks.Form.TheVariants.{Primary}
+use Rattle.timing_types.specs.declared.clocks.Wave.{Wave}
+use Rattle.source_types.specs.declared.commands.Command.{Command}
+use Rattle.source_types.specs.declared.commands.Part.{Part}
+use Rattle.source_types.specs.declared.commands.Word.{Word}
+use Rattle.source_types.specs.declared.kinds.TclKind.{TclKind}
+use Rattle.timing_types.specs.declared.modes.Mode.{Mode}
 use Rattle.sdc_model.specs.ClockFile.{SoFar, is_name, is_taken, virtual_clock, with_clock, wave_given, plain_clock, waved_clock, create_clock, grouped, group_words, set_clock_groups, keep_for, does_named, does, do_all, clock_mode, or_fault, mode_of, SaysMode}
 use Rattle.sdc_model.specs.EdgesText.{AreTimed, edges_of, HaveTimes}
 use Rattle.sdc_model.specs.ListReading.{items_of}

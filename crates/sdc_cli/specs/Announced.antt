@@ -3,9 +3,9 @@
 use Rattle.std.specs.Prelude.{◌≡◌, ◌⊎◌, ℕ, Option}
 use Rattle.sdc_base.specs.Channels.{Written}
 use Rattle.sdc_base.specs.Files.{Reading}
-use Rattle.sdc_model.specs.declared.answers.Status.{Status}
-use Rattle.sdc_model.specs.declared.answers.Status.TheVariants as status
-use Rattle.sdc_model.specs.declared.command_lines.CommandLine.{CommandLine}
+use Rattle.source_types.specs.declared.answers.Status.{Status}
+use Rattle.source_types.specs.declared.answers.Status.TheVariants as status
+use Rattle.source_types.specs.declared.command_lines.CommandLine.{CommandLine}
 use Rattle.sdc_model.specs.Answers.{CauseFits, IsLineFault, OnModes, ReadFaultFits, TooLargeFits, UsageFits}
 use Rattle.sdc_model.specs.FaultLine.{LeavesFaults, with_faults}
 use Rattle.sdc_cli.specs.Outputs.{IsOutputOf, IsTooLargeOf}

@@ -5,7 +5,7 @@ use Rattle.std.specs.BTreeSet.{BTreeSet, contains}
 use Rattle.std.specs.List.{list_any}
 use Rattle.std.specs.Ordering.{nat_cmp, ordering_then}
 use Rattle.std.specs.declared.cmp.Ordering.{Ordering}
-use Rattle.sdc_model.specs.declared.clocks.Pair.{Pair}
+use Rattle.timing_types.specs.declared.clocks.Pair.{Pair}
 use Rattle.sdc_model.specs.ClockGroups.{Groups, is_among}
 
 -- each of these places is below a number

@@ -1,8 +1,8 @@
 -- The exit number of the tool for each answer of a run: what a shell sees. This project's own rule.
 -- 0 is reserved for work that is done and found nothing; the numbers never change their meaning.
 use Rattle.std.specs.Prelude.{ℕ}
-use Rattle.sdc_model.specs.declared.answers.Status.{Status}
-use Rattle.sdc_model.specs.declared.answers.Status.TheVariants.{Done, Usage, Source, ReadFault, WriteFault, NoMemory, TooLarge}
+use Rattle.source_types.specs.declared.answers.Status.{Status}
+use Rattle.source_types.specs.declared.answers.Status.TheVariants.{Done, Usage, Source, ReadFault, WriteFault, NoMemory, TooLarge}
 
 -- the number that the tool exits with
 abbrev pub exit_of : Status → ℕ

@@ -1,8 +1,8 @@
 -- A line of the report of `edges` in the two parts that are written: what all lines of a launch edge begin with, and the
 -- rest of a line. This project's own; `edge_line` is the one behind the other.
 use Rattle.std.specs.Prelude.{ℕ, List, ◌++◌, codes}
-use Rattle.sdc_model.specs.declared.edge_times.Relation.{Relation}
-use Rattle.sdc_model.specs.declared.edge_times.TimedEdge.{TimedEdge}
+use Rattle.timing_types.specs.declared.edge_times.Relation.{Relation}
+use Rattle.timing_types.specs.declared.edge_times.TimedEdge.{TimedEdge}
 use Rattle.sdc_model.specs.EdgesText.{edge_text, relation_text}
 
 -- the file, the launch edge, and an arrow

@@ -3,10 +3,10 @@
 -- A merged text of more bytes than a file may have is refused with their number.
 use Rattle.std.specs.Prelude.{◌≡◌, ◌<◌, ◌≤◌, ℕ, pos, List, [], length, Ok}
 use Rattle.sdc_base.specs.declared.whole.TheConstants.{MOST_BYTES}
-use Rattle.sdc_model.specs.declared.command_lines.Output.{Output}
-use Rattle.sdc_model.specs.declared.designs.Design.{Design}
-use Rattle.sdc_model.specs.declared.merges.Merged.{Merged}
-use Rattle.sdc_model.specs.declared.modes.Mode.{Mode}
+use Rattle.source_types.specs.declared.command_lines.Output.{Output}
+use Rattle.timing_types.specs.declared.designs.Design.{Design}
+use Rattle.timing_types.specs.declared.merges.Merged.{Merged}
+use Rattle.timing_types.specs.declared.modes.Mode.{Mode}
 use Rattle.sdc_model.specs.ClockFile.{SaysMode}
 use Rattle.sdc_model.specs.MergedMode.{IsMergeOf}
 use Rattle.sdc_model.specs.PrintedFile.{printed_file, without_lines}

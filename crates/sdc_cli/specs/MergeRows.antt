@@ -1,9 +1,9 @@
 -- What the report of a merge of clocks says: each merged clock by its name, with the clocks of the modes that it is,
 -- in the order of the modes. This project's own. The two other lists are empty: no path is timed, no command is left.
 use Rattle.std.specs.Prelude.{◌≡◌, ◌==◌, ℕ, suc, List, [], ◌∷◌, ◌++◌, length, if◌then◌else◌}
-use Rattle.sdc_model.specs.declared.clocks.Clock.{Clock}
-use Rattle.sdc_model.specs.declared.modes.Mode.{Mode}
-use Rattle.sdc_model.specs.declared.views.ClockMap.{ClockMap}
+use Rattle.timing_types.specs.declared.clocks.Clock.{Clock}
+use Rattle.timing_types.specs.declared.modes.Mode.{Mode}
+use Rattle.timing_types.specs.declared.views.ClockMap.{ClockMap}
 use Rattle.sdc_cli.specs.declared.reports.ClockRow.{ClockRow}
 use Rattle.sdc_cli.specs.declared.reports.MergeReport.{MergeReport}
 use Rattle.sdc_cli.specs.declared.reports.ModeClock.{ModeClock}

@@ -2,10 +2,10 @@
 -- many clocks. This project's own words.
 use Rattle.std.specs.Prelude.{◌≡◌, ◌<◌, ◌≤◌, ◌⊎◌, ℕ, List, length, Result, Ok, Err}
 use Rattle.sdc_base.specs.declared.memory.At.{At}
-use Rattle.sdc_model.specs.declared.kinds.Kind.{Kind}
-use Rattle.sdc_model.specs.declared.kinds.Kind.TheVariants.{Sdc}
-use Rattle.sdc_model.specs.declared.kinds.SdcKind.TheVariants.{TooMany}
-use Rattle.sdc_model.specs.declared.modes.Mode.{Mode}
+use Rattle.source_types.specs.declared.kinds.Kind.{Kind}
+use Rattle.source_types.specs.declared.kinds.Kind.TheVariants.{Sdc}
+use Rattle.source_types.specs.declared.kinds.SdcKind.TheVariants.{TooMany}
+use Rattle.timing_types.specs.declared.modes.Mode.{Mode}
 use Rattle.sdc_model.specs.ClockFile.{SaysMode, SoFar, clock_mode}
 
 -- the mode of what was made, or the same refusal

@@ -2,7 +2,7 @@
 -- It finds a name exactly where some clock has it, and then at the place of the first one.
 use Rattle.std.specs.Prelude.{◌≡◌, ℕ, List, String}
 use Rattle.std.specs.BTreeMap.{BTreeMap, get_by_text}
-use Rattle.sdc_model.specs.declared.clocks.Clock.{Clock}
+use Rattle.timing_types.specs.declared.clocks.Clock.{Clock}
 use Rattle.sdc_model.specs.ClockGroups.{place_from}
 
 -- the map has the places of these clocks

@@ -5,11 +5,11 @@ use Rattle.sdc_base.specs.declared.outside.Refusal.{Refusal}
 use Rattle.sdc_base.specs.Channels.{Written}
 use Rattle.sdc_base.specs.Counting.{Rose}
 use Rattle.sdc_base.specs.Files.{Reading, bytes_of}
-use Rattle.sdc_model.specs.declared.answers.Status.{Status}
-use Rattle.sdc_model.specs.declared.answers.Status.TheVariants as status
-use Rattle.sdc_model.specs.declared.command_lines.CommandLine.{CommandLine}
-use Rattle.sdc_model.specs.declared.command_lines.Output.{Output}
-use Rattle.sdc_model.specs.declared.modes.Mode.{Mode}
+use Rattle.source_types.specs.declared.answers.Status.{Status}
+use Rattle.source_types.specs.declared.answers.Status.TheVariants as status
+use Rattle.source_types.specs.declared.command_lines.CommandLine.{CommandLine}
+use Rattle.source_types.specs.declared.command_lines.Output.{Output}
+use Rattle.timing_types.specs.declared.modes.Mode.{Mode}
 use Rattle.sdc_model.specs.Answers.{FailsReading, IsPlaceOf, LineModes, WritesFront, WritesWhole, files_of, first_place, most_clocks}
 use Rattle.sdc_model.specs.ModeFiles.{SaysFile}
 

@@ -3,8 +3,8 @@
 ghost use Rattle.std.specs.Prelude.{ℕ, List};
 ghost use Rattle.sdc_base.specs.declared.outside.NamedBytes.{NamedBytes};
 ghost use Rattle.sdc_base.specs.Files.{Reading};
-ghost use Rattle.sdc_model.specs.declared.command_lines.CommandLine.{CommandLine};
-ghost use Rattle.sdc_model.specs.declared.modes.Mode.{Mode};
+ghost use Rattle.source_types.specs.declared.command_lines.CommandLine.{CommandLine};
+ghost use Rattle.timing_types.specs.declared.modes.Mode.{Mode};
 ghost use Rattle.sdc_model.specs.PrintedFile.{ModesArePrintable};
 ghost use Rattle.sdc_cli.specs.Laws.{HasOneAnswer, HasOneOutcome, HaveOneMerge, HaveOneReport, SayPrintableModes};
 

@@ -19,7 +19,7 @@ pub struct NamedClocks {
 
 impl Model for NamedClocks {
     ghost use Rattle.std.specs.Prelude.{List};
-    ghost use Rattle.sdc_model.specs.declared.clocks.Clock.{Clock};
+    ghost use Rattle.timing_types.specs.declared.clocks.Clock.{Clock};
     ghost use Rattle.sdc_cli.specs.Places.{HasPlaces};
 
     ghost Value = { List Clock };

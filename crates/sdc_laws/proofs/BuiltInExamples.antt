@@ -3,11 +3,11 @@ use Rattle.std.proofs.Common.{◌≡◌, refl}
 use Rattle.std.specs.Prelude.{ℕ, List, [], ◌∷◌, Option, Some, None, Ok, Err, codes}
 use Rattle.sdc_base.specs.declared.fixed.NumberError.TheVariants.{NumberRange}
 use Rattle.sdc_base.specs.Number as number
-use Rattle.sdc_model.specs.declared.kinds.TclKind.TheVariants as kind
-use Rattle.sdc_model.specs.declared.objects.Object.TheVariants.{Clock}
-use Rattle.sdc_model.specs.declared.objects.Value.{Value}
-use Rattle.sdc_model.specs.declared.objects.Value.TheVariants as value
-use Rattle.sdc_model.specs.declared.built_ins.Branches.{Branches}
+use Rattle.source_types.specs.declared.kinds.TclKind.TheVariants as kind
+use Rattle.timing_types.specs.declared.objects.Object.TheVariants.{Clock}
+use Rattle.timing_types.specs.declared.objects.Value.{Value}
+use Rattle.timing_types.specs.declared.objects.Value.TheVariants as value
+use Rattle.source_types.specs.declared.built_ins.Branches.{Branches}
 use Rattle.sdc_model.specs.Branches.{branches_of, is_else, is_elseif, is_then}
 use Rattle.sdc_model.specs.BuiltIns.{indexed, index_of, joined_objects, listed}
 use Rattle.sdc_model.specs.Variables.{variable_value, with_variable}

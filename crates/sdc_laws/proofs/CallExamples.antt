@@ -2,11 +2,11 @@
 -- line of the outermost command.
 use Rattle.std.proofs.Common.{refl, inl, arith}
 use Rattle.std.specs.Prelude.{◌≡◌, ◌++◌, ◌<◌, ℕ, List, [], ◌∷◌, None, Ok, codes}
-use Rattle.sdc_model.specs.declared.commands.Command.{Command}
-use Rattle.sdc_model.specs.declared.commands.Part.TheVariants as part
-use Rattle.sdc_model.specs.declared.commands.Word.{Word}
-use Rattle.sdc_model.specs.declared.objects.Value.{Value}
-use Rattle.sdc_model.specs.declared.objects.Value.TheVariants as value
+use Rattle.source_types.specs.declared.commands.Command.{Command}
+use Rattle.source_types.specs.declared.commands.Part.TheVariants as part
+use Rattle.source_types.specs.declared.commands.Word.{Word}
+use Rattle.timing_types.specs.declared.objects.Value.{Value}
+use Rattle.timing_types.specs.declared.objects.Value.TheVariants as value
 use Rattle.sdc_model.specs.Bytes as bytes
 use Rattle.sdc_model.specs.Commands.{StandsCommand, StandsWord}
 use Rattle.sdc_model.specs.Continued as continued

@@ -1,9 +1,9 @@
 -- A candidate is a path of alive arcs: its first arc and its end are those of a path.
 use Rattle.std.proofs.Common.{◌≡◌, List, [], ◌∷◌, Some, Option, refl, sym, ap, subst, inl, inr}
 use Rattle.std.specs.Option.{option_map, unwrap_or}
-use Rattle.sdc_model.specs.declared.pins.ClockEdge.{ClockEdge}
-use Rattle.sdc_model.specs.declared.pins.Node.{Node}
-use Rattle.sdc_model.specs.declared.pins.Side.{Side}
+use Rattle.source_types.specs.declared.pins.ClockEdge.{ClockEdge}
+use Rattle.source_types.specs.declared.pins.Node.{Node}
+use Rattle.source_types.specs.declared.pins.Side.{Side}
 use Rattle.sdc_model.specs.Analysis.{Analysis, Alive}
 use Rattle.sdc_model.specs.Arrival.{GoesOn}
 use Rattle.sdc_model.specs.Timed.{AreLaunched, IsCapturedBy, IsLaunchedBy}

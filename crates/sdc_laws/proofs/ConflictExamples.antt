@@ -5,15 +5,15 @@ use Rattle.std.proofs.Common.{◌≡◌, ◌∙◌, ℕ, zero, suc, ◌<◌, ◌
 use Rattle.std.specs.Prelude.{true, pos, slice_get}
 use Rattle.std.specs.List.{Contains}
 use Rattle.std.proofs.lemmas.Option.{none-some, same_Some}
-use Rattle.sdc_model.specs.declared.clocks.Clock.{Clock}
-use Rattle.sdc_model.specs.declared.graphs.Arc.{Arc}
-use Rattle.sdc_model.specs.declared.graphs.ArcKind.{ArcKind}
-use Rattle.sdc_model.specs.declared.graphs.ArcKind.TheVariants.{Net, Cell}
-use Rattle.sdc_model.specs.declared.pins.ClockEdge.{ClockEdge}
-use Rattle.sdc_model.specs.declared.pins.Edge.{Edge}
-use Rattle.sdc_model.specs.declared.pins.Edge.TheVariants.{Rise, Fall}
-use Rattle.sdc_model.specs.declared.pins.Node.{Node}
-use Rattle.sdc_model.specs.declared.pins.Pin.{Pin}
+use Rattle.timing_types.specs.declared.clocks.Clock.{Clock}
+use Rattle.timing_types.specs.declared.graphs.Arc.{Arc}
+use Rattle.timing_types.specs.declared.graphs.ArcKind.{ArcKind}
+use Rattle.timing_types.specs.declared.graphs.ArcKind.TheVariants.{Net, Cell}
+use Rattle.source_types.specs.declared.pins.ClockEdge.{ClockEdge}
+use Rattle.source_types.specs.declared.pins.Edge.{Edge}
+use Rattle.source_types.specs.declared.pins.Edge.TheVariants.{Rise, Fall}
+use Rattle.source_types.specs.declared.pins.Node.{Node}
+use Rattle.source_types.specs.declared.pins.Pin.{Pin}
 use Rattle.sdc_model.specs.Analysis.{Alive, Analysis}
 use Rattle.sdc_model.specs.Arrival.{ClockArrives, IsClockWalk, IsSource, IsSourceOf}
 use Rattle.sdc_model.specs.Loops.{ConflictBefore, IsAnsweredConflict, IsConflict}

@@ -2,22 +2,22 @@
 -- fault. Each is worked out by hand from the rules of flattening.
 use Rattle.std.proofs.Common.{◌≡◌, ℕ, Bool, false, true, List, [], ◌∷◌, map, codes, Option, Some, None, refl}
 use Rattle.std.specs.Prelude.{pos, Err}
-use Rattle.sdc_model.specs.declared.fault_kinds.DesignKind.{DesignKind}
-use Rattle.sdc_model.specs.declared.fault_kinds.DesignKind.TheVariants as fault
-use Rattle.sdc_model.specs.declared.libraries.Library.{Library}
-use Rattle.sdc_model.specs.declared.library_cells.Direction.{Direction}
-use Rattle.sdc_model.specs.declared.library_cells.Direction.TheVariants as direction
-use Rattle.sdc_model.specs.declared.library_cells.LibCell.{LibCell}
-use Rattle.sdc_model.specs.declared.library_cells.LibPin.{LibPin}
-use Rattle.sdc_model.specs.declared.netlists.Assign.{Assign}
-use Rattle.sdc_model.specs.declared.netlists.Bit.{Bit}
-use Rattle.sdc_model.specs.declared.netlists.Bit.TheVariants as bits
-use Rattle.sdc_model.specs.declared.netlists.Instance.{Instance}
-use Rattle.sdc_model.specs.declared.netlists.Link.{Link}
-use Rattle.sdc_model.specs.declared.netlists.Links.TheVariants as links
-use Rattle.sdc_model.specs.declared.netlists.Module.{Module}
-use Rattle.sdc_model.specs.declared.netlists.Port.{Port}
-use Rattle.sdc_model.specs.declared.netlists.Wire.{Wire}
+use Rattle.source_types.specs.declared.fault_kinds.DesignKind.{DesignKind}
+use Rattle.source_types.specs.declared.fault_kinds.DesignKind.TheVariants as fault
+use Rattle.source_types.specs.declared.libraries.Library.{Library}
+use Rattle.source_types.specs.declared.library_cells.Direction.{Direction}
+use Rattle.source_types.specs.declared.library_cells.Direction.TheVariants as direction
+use Rattle.source_types.specs.declared.library_cells.LibCell.{LibCell}
+use Rattle.source_types.specs.declared.library_cells.LibPin.{LibPin}
+use Rattle.source_types.specs.declared.netlists.Assign.{Assign}
+use Rattle.source_types.specs.declared.netlists.Bit.{Bit}
+use Rattle.source_types.specs.declared.netlists.Bit.TheVariants as bits
+use Rattle.source_types.specs.declared.netlists.Instance.{Instance}
+use Rattle.source_types.specs.declared.netlists.Link.{Link}
+use Rattle.source_types.specs.declared.netlists.Links.TheVariants as links
+use Rattle.source_types.specs.declared.netlists.Module.{Module}
+use Rattle.source_types.specs.declared.netlists.Port.{Port}
+use Rattle.source_types.specs.declared.netlists.Wire.{Wire}
 use Rattle.sdc_model.specs.Connections.{instance_fault}
 use Rattle.sdc_model.specs.FlatDesign.{Flat, FlatPin, flat}
 use Rattle.sdc_model.specs.FlatFaults.{cell_name, flat_pin_name}

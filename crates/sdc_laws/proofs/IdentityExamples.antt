@@ -2,11 +2,11 @@
 -- `a` stands ahead of `b`, and `Z` ahead of `y`; so `a` is one clock with `Z`, and `b` with `y`, wherever they stand.
 use Rattle.std.proofs.Common.{◌≡◌, refl}
 use Rattle.std.specs.Prelude.{ℕ, pos, false, List, [], ◌∷◌, map, slice_get}
-use Rattle.sdc_model.specs.declared.clocks.Clock.{Clock}
-use Rattle.sdc_model.specs.declared.clocks.Early.{Early}
-use Rattle.sdc_model.specs.declared.clocks.Form.TheVariants.{Primary}
-use Rattle.sdc_model.specs.declared.identities.Identity.{Identity}
-use Rattle.sdc_model.specs.declared.views.View.{View}
+use Rattle.timing_types.specs.declared.clocks.Clock.{Clock}
+use Rattle.timing_types.specs.declared.clocks.Early.{Early}
+use Rattle.timing_types.specs.declared.clocks.Form.TheVariants.{Primary}
+use Rattle.timing_types.specs.declared.identities.Identity.{Identity}
+use Rattle.timing_types.specs.declared.views.View.{View}
 use Rattle.sdc_model.specs.ClockIdentity.{identities_of}
 use Rattle.sdc_model.specs.PlainViews.{view_of}
 

@@ -1,9 +1,9 @@
 -- An arc that launches nothing leaves no launching and no checked pin, so no inner node of a path is at one.
 use Rattle.std.proofs.Common.{List, [], ◌∷◌, inl, inr}
-use Rattle.sdc_model.specs.declared.designs.Design.{Design}
-use Rattle.sdc_model.specs.declared.graphs.ArcKind.TheVariants.{Net, Cell}
-use Rattle.sdc_model.specs.declared.graphs.Graph.{Graph}
-use Rattle.sdc_model.specs.declared.pins.Node.{Node}
+use Rattle.timing_types.specs.declared.designs.Design.{Design}
+use Rattle.timing_types.specs.declared.graphs.ArcKind.TheVariants.{Net, Cell}
+use Rattle.timing_types.specs.declared.graphs.Graph.{Graph}
+use Rattle.source_types.specs.declared.pins.Node.{Node}
 use Rattle.sdc_model.specs.AliveArcs.{HasArc}
 use Rattle.sdc_model.specs.Arrival.{GoesOn}
 use Rattle.sdc_model.specs.TimingGraph.{arc_of, IsChecked, IsGraphOf, IsLaunching}

@@ -4,19 +4,19 @@
 use Rattle.std.proofs.Common.{◌≡◌, refl, sym, inl, inr, arith}
 use Rattle.std.specs.Prelude.{◌⊎◌, ℤ, pos, false, [], ◌∷◌, Some, None}
 use Rattle.std.proofs.lemmas.Int.{ints}
-use Rattle.sdc_model.specs.declared.constraints.ExCommand.TheVariants.{Delay, Multicycle}
-use Rattle.sdc_model.specs.declared.constraints.IoDelay.{IoDelay}
-use Rattle.sdc_model.specs.declared.constraints.Points.TheVariants as points
-use Rattle.sdc_model.specs.declared.designs.Design.{Design}
-use Rattle.sdc_model.specs.declared.designs.PinInfo.{PinInfo}
-use Rattle.sdc_model.specs.declared.designs.Role.{Role}
-use Rattle.sdc_model.specs.declared.designs.Role.TheVariants.{InPort, OutPort, CellIn, CellOut}
-use Rattle.sdc_model.specs.declared.designs.Source.TheVariants.{Nothing}
-use Rattle.sdc_model.specs.declared.modes.Mode.{Mode}
-use Rattle.sdc_model.specs.declared.pins.Edge.{Edge}
-use Rattle.sdc_model.specs.declared.pins.Edge.TheVariants.{Rise, Fall}
-use Rattle.sdc_model.specs.declared.pins.Side.{Side}
-use Rattle.sdc_model.specs.declared.pins.Side.TheVariants.{Setup, Hold}
+use Rattle.timing_types.specs.declared.constraints.ExCommand.TheVariants.{Delay, Multicycle}
+use Rattle.timing_types.specs.declared.constraints.IoDelay.{IoDelay}
+use Rattle.timing_types.specs.declared.constraints.Points.TheVariants as points
+use Rattle.timing_types.specs.declared.designs.Design.{Design}
+use Rattle.timing_types.specs.declared.designs.PinInfo.{PinInfo}
+use Rattle.timing_types.specs.declared.designs.Role.{Role}
+use Rattle.timing_types.specs.declared.designs.Role.TheVariants.{InPort, OutPort, CellIn, CellOut}
+use Rattle.timing_types.specs.declared.designs.Source.TheVariants.{Nothing}
+use Rattle.timing_types.specs.declared.modes.Mode.{Mode}
+use Rattle.source_types.specs.declared.pins.Edge.{Edge}
+use Rattle.source_types.specs.declared.pins.Edge.TheVariants.{Rise, Fall}
+use Rattle.source_types.specs.declared.pins.Side.{Side}
+use Rattle.source_types.specs.declared.pins.Side.TheVariants.{Setup, Hold}
 use Rattle.sdc_model.specs.KeyLines.{ends_of_key, key_line, relation_for}
 use Rattle.sdc_model.specs.Keys.{Key, KeyBefore}
 use Rattle.sdc_model.specs.Limit.{adjustment}

@@ -3,20 +3,20 @@
 use Rattle.std.proofs.Common.{◌≡◌, ℕ, zero, suc, Bool, false, true, List, [], ◌∷◌, None, Result, Ok, Err, refl}
 use Rattle.std.specs.Prelude.{◌||◌, codes, pos}
 use Rattle.sdc_base.specs.declared.memory.At.{At}
-use Rattle.sdc_model.specs.declared.kinds.LibKind.{LibKind}
-use Rattle.sdc_model.specs.declared.kinds.LibKind.TheVariants.{DoubleCell, FunctionForm, LibForm, UnknownPin}
-use Rattle.sdc_model.specs.declared.liberty_tokens.LibertySymbol.TheVariants as part
-use Rattle.sdc_model.specs.declared.libraries.Library.{Library}
-use Rattle.sdc_model.specs.declared.library_cells.Direction.{Direction}
-use Rattle.sdc_model.specs.declared.library_cells.Direction.TheVariants.{Input, Other, Output}
-use Rattle.sdc_model.specs.declared.library_cells.LibArc.{LibArc}
-use Rattle.sdc_model.specs.declared.library_cells.LibCell.{LibCell}
-use Rattle.sdc_model.specs.declared.library_cells.LibCheck.{LibCheck}
-use Rattle.sdc_model.specs.declared.library_cells.LibPin.{LibPin}
-use Rattle.sdc_model.specs.declared.pins.Edge.{Edge}
-use Rattle.sdc_model.specs.declared.pins.Edge.TheVariants.{Rise, Fall}
-use Rattle.sdc_model.specs.declared.pins.Side.{Side}
-use Rattle.sdc_model.specs.declared.pins.Side.TheVariants.{Setup, Hold}
+use Rattle.source_types.specs.declared.kinds.LibKind.{LibKind}
+use Rattle.source_types.specs.declared.kinds.LibKind.TheVariants.{DoubleCell, FunctionForm, LibForm, UnknownPin}
+use Rattle.source_types.specs.declared.liberty_tokens.LibertySymbol.TheVariants as part
+use Rattle.source_types.specs.declared.libraries.Library.{Library}
+use Rattle.source_types.specs.declared.library_cells.Direction.{Direction}
+use Rattle.source_types.specs.declared.library_cells.Direction.TheVariants.{Input, Other, Output}
+use Rattle.source_types.specs.declared.library_cells.LibArc.{LibArc}
+use Rattle.source_types.specs.declared.library_cells.LibCell.{LibCell}
+use Rattle.source_types.specs.declared.library_cells.LibCheck.{LibCheck}
+use Rattle.source_types.specs.declared.library_cells.LibPin.{LibPin}
+use Rattle.source_types.specs.declared.pins.Edge.{Edge}
+use Rattle.source_types.specs.declared.pins.Edge.TheVariants.{Rise, Fall}
+use Rattle.source_types.specs.declared.pins.Side.{Side}
+use Rattle.source_types.specs.declared.pins.Side.TheVariants.{Setup, Hold}
 use Rattle.sdc_model.specs.LibertyGrammar.{formed, kinds, liberty}
 use Rattle.sdc_model.specs.LibertyText.{read}
 use Rattle.sdc_model.specs.LibertyTokens.{Character, Ending, Token, at_end, characters, is_in_comment, is_unfinished, last_token, plain, token_front, within_at_end}

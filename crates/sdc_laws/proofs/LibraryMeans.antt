@@ -11,10 +11,10 @@ use Rattle.token_grammar.specs.Machine.{break_of}
 use Rattle.sdc_base.proofs.CaseFacts.{by_bool}
 use Rattle.sdc_base.specs.declared.memory.At.{At}
 use Rattle.sdc_model.proofs.LibertyDecides.{decides, follow}
-use Rattle.sdc_model.specs.declared.kinds.LibKind.{LibKind}
-use Rattle.sdc_model.specs.declared.kinds.LibKind.TheVariants.{NotText}
-use Rattle.sdc_model.specs.declared.libraries.Library.{Library}
-use Rattle.sdc_model.specs.declared.liberty_tokens.LibertySymbol.TheVariants as part
+use Rattle.source_types.specs.declared.kinds.LibKind.{LibKind}
+use Rattle.source_types.specs.declared.kinds.LibKind.TheVariants.{NotText}
+use Rattle.source_types.specs.declared.libraries.Library.{Library}
+use Rattle.source_types.specs.declared.liberty_tokens.LibertySymbol.TheVariants as part
 use Rattle.sdc_model.specs.LastLine.{broken_text_line}
 use Rattle.sdc_model.specs.LibertyGrammar.{IsFormed, formed, kinds, liberty}
 use Rattle.sdc_model.specs.LibertyText.{ReadsLibrary, read}

@@ -3,18 +3,18 @@
 use Rattle.std.proofs.Common.{◌≡◌, refl}
 use Rattle.std.specs.Prelude.{ℕ, ℤ, pos, ◌+ℤ◌, Bool, false, [], ◌∷◌, Option, Some, None}
 use Rattle.std.specs.Option.{option_map}
-use Rattle.sdc_model.specs.declared.clocks.Clock.{Clock}
-use Rattle.sdc_model.specs.declared.clocks.Early.{Early}
-use Rattle.sdc_model.specs.declared.clocks.Form.TheVariants.{Primary}
-use Rattle.sdc_model.specs.declared.constraints.ExCommand.{ExCommand}
-use Rattle.sdc_model.specs.declared.constraints.ExCommand.TheVariants.{Delay, Multicycle}
-use Rattle.sdc_model.specs.declared.constraints.Exception.{Exception}
-use Rattle.sdc_model.specs.declared.edge_times.Relation.{Relation}
-use Rattle.sdc_model.specs.declared.modes.Mode.{Mode}
-use Rattle.sdc_model.specs.declared.paths.Periods.{Periods}
-use Rattle.sdc_model.specs.declared.pins.Edge.TheVariants.{Rise}
-use Rattle.sdc_model.specs.declared.pins.Side.{Side}
-use Rattle.sdc_model.specs.declared.pins.Side.TheVariants.{Setup, Hold}
+use Rattle.timing_types.specs.declared.clocks.Clock.{Clock}
+use Rattle.timing_types.specs.declared.clocks.Early.{Early}
+use Rattle.timing_types.specs.declared.clocks.Form.TheVariants.{Primary}
+use Rattle.timing_types.specs.declared.constraints.ExCommand.{ExCommand}
+use Rattle.timing_types.specs.declared.constraints.ExCommand.TheVariants.{Delay, Multicycle}
+use Rattle.timing_types.specs.declared.constraints.Exception.{Exception}
+use Rattle.timing_types.specs.declared.edge_times.Relation.{Relation}
+use Rattle.timing_types.specs.declared.modes.Mode.{Mode}
+use Rattle.timing_types.specs.declared.paths.Periods.{Periods}
+use Rattle.source_types.specs.declared.pins.Edge.TheVariants.{Rise}
+use Rattle.source_types.specs.declared.pins.Side.{Side}
+use Rattle.source_types.specs.declared.pins.Side.TheVariants.{Setup, Hold}
 use Rattle.sdc_model.specs.Limit.{adjustment, base_relation, changed_relation, setup_move}
 use Rattle.sdc_model.specs.Nodes.{clock_edge, node_at}
 use Rattle.sdc_model.specs.TimingPath.{Ends}

@@ -1,7 +1,7 @@
 -- Texts that are read as lists, worked out by hand: `a {b c} d` has three items, `a {b` has a brace without its end, and
 -- behind the brace of `{a};` stands text.
 use Rattle.std.proofs.Common.{◌≡◌, [], ◌∷◌, Ok, Err, Some, None, codes, refl}
-use Rattle.sdc_model.specs.declared.kinds.TclKind.TheVariants.{ExtraAfterBrace, Unclosed}
+use Rattle.source_types.specs.declared.kinds.TclKind.TheVariants.{ExtraAfterBrace, Unclosed}
 use Rattle.sdc_model.specs.Bytes.{behind, front}
 use Rattle.sdc_model.specs.Continued.{behind_newline}
 use Rattle.sdc_model.specs.Enclosed.{behind_open}

@@ -4,10 +4,10 @@ use Rattle.std.proofs.Common.{◌≡◌, ℕ, zero, suc, ◌<◌, List, [], ◌�
 use Rattle.std.specs.Prelude.{take}
 use Rattle.std.specs.List.{AllZip}
 use Rattle.std.proofs.lemmas.Option.{none-some, same_Some, slice_get_within}
-use Rattle.sdc_model.specs.declared.constraints.Through.{Through}
-use Rattle.sdc_model.specs.declared.pins.Edge.TheVariants.{Rise}
-use Rattle.sdc_model.specs.declared.pins.Node.{Node}
-use Rattle.sdc_model.specs.declared.pins.Pin.{Pin}
+use Rattle.timing_types.specs.declared.constraints.Through.{Through}
+use Rattle.source_types.specs.declared.pins.Edge.TheVariants.{Rise}
+use Rattle.source_types.specs.declared.pins.Node.{Node}
+use Rattle.source_types.specs.declared.pins.Pin.{Pin}
 use Rattle.sdc_model.specs.Classes.{IsMostMet}
 use Rattle.sdc_model.specs.Matching.{AreMet, AreRising, HasNodeAt, IsIn}
 use Rattle.sdc_model.specs.Nodes.{node_at}

@@ -13,11 +13,11 @@ use Rattle.sdc_base.proofs.CaseFacts.{by_bool}
 use Rattle.sdc_base.specs.declared.memory.At.{At}
 use Rattle.sdc_model.proofs.RowFacts.{not_both, same_place}
 use Rattle.sdc_model.proofs.VerilogDecides.{decides, follow}
-use Rattle.sdc_model.specs.declared.fault_kinds.VerilogKind.{VerilogKind}
-use Rattle.sdc_model.specs.declared.fault_kinds.VerilogKind.TheVariants.{NotText}
-use Rattle.sdc_model.specs.declared.netlists.Module.{Module}
-use Rattle.sdc_model.specs.declared.verilog_tokens.VerilogSymbol.TheVariants.{Source}
-use Rattle.sdc_model.specs.declared.verilog_tokens.VerilogToken.TheVariants as kind
+use Rattle.source_types.specs.declared.fault_kinds.VerilogKind.{VerilogKind}
+use Rattle.source_types.specs.declared.fault_kinds.VerilogKind.TheVariants.{NotText}
+use Rattle.source_types.specs.declared.netlists.Module.{Module}
+use Rattle.source_types.specs.declared.verilog_tokens.VerilogSymbol.TheVariants.{Source}
+use Rattle.source_types.specs.declared.verilog_tokens.VerilogToken.TheVariants as kind
 use Rattle.sdc_model.specs.Bytes.{is_digit, is_letter}
 use Rattle.sdc_model.specs.LastLine.{broken_text_line}
 use Rattle.sdc_model.specs.Row.{Front, Row, found, stops}

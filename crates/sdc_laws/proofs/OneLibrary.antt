@@ -5,9 +5,9 @@ use Rattle.token_grammar.proofs.Breaking.{break_is_one}
 use Rattle.token_grammar.specs.Texts.{Breaks}
 use Rattle.sdc_base.specs.declared.memory.At.{At}
 use Rattle.sdc_model.proofs.RowFacts.{row_once}
-use Rattle.sdc_model.specs.declared.kinds.LibKind.{LibKind}
-use Rattle.sdc_model.specs.declared.libraries.Library.{Library}
-use Rattle.sdc_model.specs.declared.liberty_tokens.LibertySymbol.TheVariants as part
+use Rattle.source_types.specs.declared.kinds.LibKind.{LibKind}
+use Rattle.source_types.specs.declared.libraries.Library.{Library}
+use Rattle.source_types.specs.declared.liberty_tokens.LibertySymbol.TheVariants as part
 use Rattle.sdc_model.specs.LibertyGrammar.{IsFormed, formed, kinds, liberty}
 use Rattle.sdc_model.specs.LibertyText.{ReadsLibrary, read}
 use Rattle.sdc_model.specs.LibertyTokens.{IsLexed, Token, characters, is_in_comment, is_unfinished, last_token, plain, token_front, within_at_end}

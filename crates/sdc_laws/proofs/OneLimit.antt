@@ -4,15 +4,15 @@ use Rattle.std.specs.Prelude.{ℤ, ◌+ℤ◌}
 use Rattle.std.specs.Option.{option_map}
 use Rattle.std.proofs.lemmas.Int.{ints}
 use Rattle.std.proofs.lemmas.Option.{same_Some}
-use Rattle.sdc_model.specs.declared.clocks.Clock.{Clock}
-use Rattle.sdc_model.specs.declared.clocks.Wave.{Wave}
-use Rattle.sdc_model.specs.declared.constraints.Exception.{Exception}
-use Rattle.sdc_model.specs.declared.edge_times.Relation.{Relation}
-use Rattle.sdc_model.specs.declared.modes.Mode.{Mode}
-use Rattle.sdc_model.specs.declared.paths.Path.{Path}
-use Rattle.sdc_model.specs.declared.paths.Periods.{Periods}
-use Rattle.sdc_model.specs.declared.pins.Side.{Side}
-use Rattle.sdc_model.specs.declared.pins.Side.TheVariants.{Setup}
+use Rattle.timing_types.specs.declared.clocks.Clock.{Clock}
+use Rattle.timing_types.specs.declared.clocks.Wave.{Wave}
+use Rattle.timing_types.specs.declared.constraints.Exception.{Exception}
+use Rattle.timing_types.specs.declared.edge_times.Relation.{Relation}
+use Rattle.timing_types.specs.declared.modes.Mode.{Mode}
+use Rattle.timing_types.specs.declared.paths.Path.{Path}
+use Rattle.timing_types.specs.declared.paths.Periods.{Periods}
+use Rattle.source_types.specs.declared.pins.Side.{Side}
+use Rattle.source_types.specs.declared.pins.Side.TheVariants.{Setup}
 use Rattle.sdc_model.specs.Analysis.{Analysis}
 use Rattle.sdc_model.specs.Limit.{adjustment, base_relation, changed_relation, edge_time, IsLimit, MulticycleMatch, setup_move, winning}
 use Rattle.sdc_model.specs.Matching.{MatchesAt}

@@ -4,9 +4,9 @@ use Rattle.token_grammar.proofs.Breaking.{break_is_one}
 use Rattle.token_grammar.specs.Texts.{Breaks}
 use Rattle.sdc_base.specs.declared.memory.At.{At}
 use Rattle.sdc_model.proofs.RowFacts.{row_once}
-use Rattle.sdc_model.specs.declared.fault_kinds.VerilogKind.{VerilogKind}
-use Rattle.sdc_model.specs.declared.netlists.Module.{Module}
-use Rattle.sdc_model.specs.declared.verilog_tokens.VerilogSymbol.TheVariants.{Source}
+use Rattle.source_types.specs.declared.fault_kinds.VerilogKind.{VerilogKind}
+use Rattle.source_types.specs.declared.netlists.Module.{Module}
+use Rattle.source_types.specs.declared.verilog_tokens.VerilogSymbol.TheVariants.{Source}
 use Rattle.sdc_model.specs.Verilog.{ReadsText, ReadsVerilog, meaning}
 use Rattle.sdc_model.specs.VerilogGrammar.{verilog}
 use Rattle.sdc_model.specs.VerilogKinds.{kinds_of}

@@ -4,12 +4,12 @@ use Rattle.std.specs.Prelude.{◌⊎◌, ℤ, slice_get}
 use Rattle.std.proofs.lemmas.Bool.{cases_lt}
 use Rattle.std.proofs.lemmas.Int.{ints}
 use Rattle.std.proofs.lemmas.Option.{same_Some}
-use Rattle.sdc_model.specs.declared.constraints.ExCommand.{ExCommand}
-use Rattle.sdc_model.specs.declared.constraints.Exception.{Exception}
-use Rattle.sdc_model.specs.declared.paths.Path.{Path}
-use Rattle.sdc_model.specs.declared.paths.Periods.{Periods}
-use Rattle.sdc_model.specs.declared.pins.Side.{Side}
-use Rattle.sdc_model.specs.declared.pins.Side.TheVariants.{Setup, Hold}
+use Rattle.timing_types.specs.declared.constraints.ExCommand.{ExCommand}
+use Rattle.timing_types.specs.declared.constraints.Exception.{Exception}
+use Rattle.timing_types.specs.declared.paths.Path.{Path}
+use Rattle.timing_types.specs.declared.paths.Periods.{Periods}
+use Rattle.source_types.specs.declared.pins.Side.{Side}
+use Rattle.source_types.specs.declared.pins.Side.TheVariants.{Setup, Hold}
 use Rattle.sdc_model.specs.Matching.{Matches, MatchesAt}
 use Rattle.sdc_model.specs.Winner.{command_rank, flags, IsStricter, IsWinner, resulting_of, StandsBefore}
 

@@ -2,8 +2,8 @@
 use Rattle.std.proofs.Common.{List}
 use Rattle.std.specs.Prelude.{ℤ, Option, Some, None}
 use Rattle.std.specs.List.{Contains}
-use Rattle.sdc_model.specs.declared.paths.Path.{Path}
-use Rattle.sdc_model.specs.declared.pins.Side.{Side}
+use Rattle.timing_types.specs.declared.paths.Path.{Path}
+use Rattle.source_types.specs.declared.pins.Side.{Side}
 use Rattle.sdc_model.specs.AnalysedModes.{AnalysedMode}
 use Rattle.sdc_model.specs.Required.{IsRequired, RequirementIs}
 

@@ -2,15 +2,15 @@
 -- first faults with their lines. Of bodies: items one by one.
 use Rattle.std.proofs.Common.{refl, inl, inr, arith}
 use Rattle.std.specs.Prelude.{◌≡◌, ◌+◌, ◌<◌, ◌≤◌, ℕ, List, [], ◌∷◌, None, Ok, Err, codes}
-use Rattle.sdc_model.specs.declared.commands.Command.{Command}
-use Rattle.sdc_model.specs.declared.commands.Part.TheVariants as part
-use Rattle.sdc_model.specs.declared.commands.Word.{Word}
-use Rattle.sdc_model.specs.declared.kinds.Kind.{Kind}
-use Rattle.sdc_model.specs.declared.kinds.Kind.TheVariants.{Tcl}
-use Rattle.sdc_model.specs.declared.kinds.TclKind.TheVariants as kind
-use Rattle.sdc_model.specs.declared.objects.Object.TheVariants.{Clock}
-use Rattle.sdc_model.specs.declared.objects.Value.{Value}
-use Rattle.sdc_model.specs.declared.objects.Value.TheVariants as value
+use Rattle.source_types.specs.declared.commands.Command.{Command}
+use Rattle.source_types.specs.declared.commands.Part.TheVariants as part
+use Rattle.source_types.specs.declared.commands.Word.{Word}
+use Rattle.source_types.specs.declared.kinds.Kind.{Kind}
+use Rattle.source_types.specs.declared.kinds.Kind.TheVariants.{Tcl}
+use Rattle.source_types.specs.declared.kinds.TclKind.TheVariants as kind
+use Rattle.timing_types.specs.declared.objects.Object.TheVariants.{Clock}
+use Rattle.timing_types.specs.declared.objects.Value.{Value}
+use Rattle.timing_types.specs.declared.objects.Value.TheVariants as value
 use Rattle.sdc_model.specs.Bytes as bytes
 use Rattle.sdc_model.specs.BuiltIns.{no_text}
 use Rattle.sdc_model.specs.Commands.{Place, StandsCommand, StandsWord}

@@ -2,13 +2,13 @@
 use Rattle.std.proofs.Common.{◌≡◌, ℕ, List, [], ◌∷◌, ◌++◌, Option, Some, None, refl, sym, ap, subst, ◌∙◌, inl, inr}
 use Rattle.std.specs.Prelude.{option_and_then, option_map}
 use Rattle.std.proofs.lemmas.List.{append_assoc, append-nil}
-use Rattle.sdc_model.specs.declared.function_texts.Operand.{Operand}
-use Rattle.sdc_model.specs.declared.function_texts.Operand.TheVariants as operand
-use Rattle.sdc_model.specs.declared.function_texts.Pending.{Pending}
-use Rattle.sdc_model.specs.declared.function_texts.Sign.{Sign}
-use Rattle.sdc_model.specs.declared.function_texts.Sign.TheVariants as sign
-use Rattle.sdc_model.specs.declared.functions.Expr.{Expr}
-use Rattle.sdc_model.specs.declared.functions.Expr.TheVariants as expr
+use Rattle.source_types.specs.declared.function_texts.Operand.{Operand}
+use Rattle.source_types.specs.declared.function_texts.Operand.TheVariants as operand
+use Rattle.source_types.specs.declared.function_texts.Pending.{Pending}
+use Rattle.source_types.specs.declared.function_texts.Sign.{Sign}
+use Rattle.source_types.specs.declared.function_texts.Sign.TheVariants as sign
+use Rattle.source_types.specs.declared.functions.Expr.{Expr}
+use Rattle.source_types.specs.declared.functions.Expr.TheVariants as expr
 use Rattle.sdc_model.specs.FunctionText as reading
 use Rattle.sdc_model.specs.FunctionText.{Reading, apart, behind, behind_and, behind_not, behind_or, behind_xor, chain_with, closed, ended, expression, joined_and, joined_or, joined_xor, negated, nothing_open, nothing_read, operand_in, product_with, sign_of, step, steps, sum_with, whole, word_meaning}
 use Rattle.sdc_model.specs.FunctionGrammar.{AreLetters, IsAnd, IsWord, Level, Spells, a_chain, a_negation, a_product, a_sum, an_operand, before_blank, behind_blank, both, denied, either, enclosed, one_chain, one_negation, one_operand, one_product, primed, some, word}

@@ -7,15 +7,15 @@ use Rattle.std.specs.List.{Contains}
 use Rattle.std.specs.Option.{unwrap_or}
 use Rattle.std.specs.Int.{bit_at}
 use Rattle.std.proofs.lemmas.Option.{none-some, same_Some, slice_get_within}
-use Rattle.sdc_model.specs.declared.class_sets.Class.{Class}
-use Rattle.sdc_model.specs.declared.class_sets.ClassSets.{ClassSets}
-use Rattle.sdc_model.specs.declared.class_sets.Launched.{Launched}
-use Rattle.sdc_model.specs.declared.class_sets.Met.{Met}
-use Rattle.sdc_model.specs.declared.graphs.ArcKind.{ArcKind}
-use Rattle.sdc_model.specs.declared.graphs.ArcKind.TheVariants.{Net, Launch}
-use Rattle.sdc_model.specs.declared.pins.Edge.{Edge}
-use Rattle.sdc_model.specs.declared.pins.Edge.TheVariants.{Rise, Fall}
-use Rattle.sdc_model.specs.declared.pins.Node.{Node}
+use Rattle.timing_types.specs.declared.class_sets.Class.{Class}
+use Rattle.timing_types.specs.declared.class_sets.ClassSets.{ClassSets}
+use Rattle.timing_types.specs.declared.class_sets.Launched.{Launched}
+use Rattle.timing_types.specs.declared.class_sets.Met.{Met}
+use Rattle.timing_types.specs.declared.graphs.ArcKind.{ArcKind}
+use Rattle.timing_types.specs.declared.graphs.ArcKind.TheVariants.{Net, Launch}
+use Rattle.source_types.specs.declared.pins.Edge.{Edge}
+use Rattle.source_types.specs.declared.pins.Edge.TheVariants.{Rise, Fall}
+use Rattle.source_types.specs.declared.pins.Node.{Node}
 use Rattle.sdc_model.specs.AliveArcs.{HasAliveArc}
 use Rattle.sdc_model.specs.Arrival.{GoesOn, Launches}
 use Rattle.sdc_model.specs.Classes.{AreClassSets, AreLinked, ClassCountIs, classes_at, HasMet, IsClassAt, IsClassOf, IsFirstArc, IsLaunchNode, IsProgress}

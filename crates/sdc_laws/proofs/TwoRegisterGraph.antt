@@ -5,16 +5,16 @@ use Rattle.std.specs.Prelude.{◌⊎◌, drop, slice_get}
 use Rattle.std.specs.List.{All, Contains}
 use Rattle.std.proofs.lemmas.List.Elements.{All-contains, All-from_recursion}
 use Rattle.std.proofs.lemmas.Option.{none-some, same_Some}
-use Rattle.sdc_model.specs.declared.graphs.Arc.{Arc}
-use Rattle.sdc_model.specs.declared.graphs.ArcKind.{ArcKind}
-use Rattle.sdc_model.specs.declared.graphs.ArcKind.TheVariants.{Net, Cell, Launch}
-use Rattle.sdc_model.specs.declared.graphs.Check.{Check}
-use Rattle.sdc_model.specs.declared.graphs.Graph.{Graph}
-use Rattle.sdc_model.specs.declared.pins.Edge.{Edge}
-use Rattle.sdc_model.specs.declared.pins.Edge.TheVariants.{Rise, Fall}
-use Rattle.sdc_model.specs.declared.pins.Node.{Node}
-use Rattle.sdc_model.specs.declared.pins.Side.{Side}
-use Rattle.sdc_model.specs.declared.pins.Side.TheVariants.{Setup, Hold}
+use Rattle.timing_types.specs.declared.graphs.Arc.{Arc}
+use Rattle.timing_types.specs.declared.graphs.ArcKind.{ArcKind}
+use Rattle.timing_types.specs.declared.graphs.ArcKind.TheVariants.{Net, Cell, Launch}
+use Rattle.timing_types.specs.declared.graphs.Check.{Check}
+use Rattle.timing_types.specs.declared.graphs.Graph.{Graph}
+use Rattle.source_types.specs.declared.pins.Edge.{Edge}
+use Rattle.source_types.specs.declared.pins.Edge.TheVariants.{Rise, Fall}
+use Rattle.source_types.specs.declared.pins.Node.{Node}
+use Rattle.source_types.specs.declared.pins.Side.{Side}
+use Rattle.source_types.specs.declared.pins.Side.TheVariants.{Setup, Hold}
 use Rattle.sdc_model.specs.Nodes.{node_at, node_number}
 use Rattle.sdc_model.specs.TimingGraph.{AreInOrder, arc_of, ArcStandsBefore, IsArc, IsArcOf, IsCheck, IsGraphOf, kind_number}
 use Rattle.sdc_laws.proofs.TwoRegisters.{CheckedPins, checks, launches, LaunchPins, NetPins, nets, no_cell_arc, two_registers}

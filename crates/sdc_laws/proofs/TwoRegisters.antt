@@ -6,26 +6,26 @@ use Rattle.std.specs.List.{All, Contains}
 use Rattle.std.proofs.lemmas.Bool.{false≢true}
 use Rattle.std.proofs.lemmas.List.Elements.{All-contains}
 use Rattle.std.proofs.lemmas.Option.{none-some, same_Some}
-use Rattle.sdc_model.specs.declared.designs.CellInfo.{CellInfo}
-use Rattle.sdc_model.specs.declared.designs.Design.{Design}
-use Rattle.sdc_model.specs.declared.designs.PinInfo.{PinInfo}
-use Rattle.sdc_model.specs.declared.designs.Role.{Role}
-use Rattle.sdc_model.specs.declared.designs.Role.TheVariants as role
-use Rattle.sdc_model.specs.declared.designs.Source.{Source}
-use Rattle.sdc_model.specs.declared.designs.Source.TheVariants as source
-use Rattle.sdc_model.specs.declared.graphs.Check.{Check}
-use Rattle.sdc_model.specs.declared.library_cells.Direction.{Direction}
-use Rattle.sdc_model.specs.declared.library_cells.Direction.TheVariants as direction
-use Rattle.sdc_model.specs.declared.library_cells.LibArc.{LibArc}
-use Rattle.sdc_model.specs.declared.library_cells.LibCell.{LibCell}
-use Rattle.sdc_model.specs.declared.library_cells.LibCheck.{LibCheck}
-use Rattle.sdc_model.specs.declared.library_cells.LibPin.{LibPin}
-use Rattle.sdc_model.specs.declared.pins.Edge.{Edge}
-use Rattle.sdc_model.specs.declared.pins.Edge.TheVariants.{Rise, Fall}
-use Rattle.sdc_model.specs.declared.pins.Node.{Node}
-use Rattle.sdc_model.specs.declared.pins.Pin.{Pin}
-use Rattle.sdc_model.specs.declared.pins.Side.{Side}
-use Rattle.sdc_model.specs.declared.pins.Side.TheVariants.{Setup, Hold}
+use Rattle.timing_types.specs.declared.designs.CellInfo.{CellInfo}
+use Rattle.timing_types.specs.declared.designs.Design.{Design}
+use Rattle.timing_types.specs.declared.designs.PinInfo.{PinInfo}
+use Rattle.timing_types.specs.declared.designs.Role.{Role}
+use Rattle.timing_types.specs.declared.designs.Role.TheVariants as role
+use Rattle.timing_types.specs.declared.designs.Source.{Source}
+use Rattle.timing_types.specs.declared.designs.Source.TheVariants as source
+use Rattle.timing_types.specs.declared.graphs.Check.{Check}
+use Rattle.source_types.specs.declared.library_cells.Direction.{Direction}
+use Rattle.source_types.specs.declared.library_cells.Direction.TheVariants as direction
+use Rattle.source_types.specs.declared.library_cells.LibArc.{LibArc}
+use Rattle.source_types.specs.declared.library_cells.LibCell.{LibCell}
+use Rattle.source_types.specs.declared.library_cells.LibCheck.{LibCheck}
+use Rattle.source_types.specs.declared.library_cells.LibPin.{LibPin}
+use Rattle.source_types.specs.declared.pins.Edge.{Edge}
+use Rattle.source_types.specs.declared.pins.Edge.TheVariants.{Rise, Fall}
+use Rattle.source_types.specs.declared.pins.Node.{Node}
+use Rattle.source_types.specs.declared.pins.Pin.{Pin}
+use Rattle.source_types.specs.declared.pins.Side.{Side}
+use Rattle.source_types.specs.declared.pins.Side.TheVariants.{Setup, Hold}
 use Rattle.sdc_model.specs.Nodes.{driver_of, IsCell, IsInputPort, IsOther, role_of}
 use Rattle.sdc_model.specs.TimingGraph.{IsCellArc, IsCheck, IsChecked, IsLaunchArc, IsLaunching, IsLibraryArc, IsNetArc, joins}
 

@@ -6,17 +6,17 @@ use Rattle.std.specs.Prelude.{ℤ, pos, Bool, true, false, slice_get}
 use Rattle.std.specs.Option.{option_map}
 use Rattle.std.proofs.lemmas.Bool.{false≢true}
 use Rattle.std.proofs.lemmas.Option.{none-some, same_Some}
-use Rattle.sdc_model.specs.declared.constraints.ExCommand.{ExCommand}
-use Rattle.sdc_model.specs.declared.constraints.ExCommand.TheVariants.{FalsePath, Delay}
-use Rattle.sdc_model.specs.declared.constraints.Exception.{Exception}
-use Rattle.sdc_model.specs.declared.constraints.Points.{Points}
-use Rattle.sdc_model.specs.declared.constraints.Points.TheVariants as points
-use Rattle.sdc_model.specs.declared.paths.Path.{Path}
-use Rattle.sdc_model.specs.declared.paths.Periods.{Periods}
-use Rattle.sdc_model.specs.declared.pins.Edge.TheVariants.{Rise}
-use Rattle.sdc_model.specs.declared.pins.Node.{Node}
-use Rattle.sdc_model.specs.declared.pins.Side.{Side}
-use Rattle.sdc_model.specs.declared.pins.Side.TheVariants.{Setup, Hold}
+use Rattle.timing_types.specs.declared.constraints.ExCommand.{ExCommand}
+use Rattle.timing_types.specs.declared.constraints.ExCommand.TheVariants.{FalsePath, Delay}
+use Rattle.timing_types.specs.declared.constraints.Exception.{Exception}
+use Rattle.timing_types.specs.declared.constraints.Points.{Points}
+use Rattle.timing_types.specs.declared.constraints.Points.TheVariants as points
+use Rattle.timing_types.specs.declared.paths.Path.{Path}
+use Rattle.timing_types.specs.declared.paths.Periods.{Periods}
+use Rattle.source_types.specs.declared.pins.Edge.TheVariants.{Rise}
+use Rattle.source_types.specs.declared.pins.Node.{Node}
+use Rattle.source_types.specs.declared.pins.Side.{Side}
+use Rattle.source_types.specs.declared.pins.Side.TheVariants.{Setup, Hold}
 use Rattle.sdc_model.specs.Matching.{AreMet, Matches, MatchesAt}
 use Rattle.sdc_model.specs.Nodes.{clock_edge, node_at}
 use Rattle.sdc_model.specs.Winner.{command_rank, IsWinner}

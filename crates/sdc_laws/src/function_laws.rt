@@ -2,7 +2,7 @@
 
 ghost use Rattle.std.specs.Prelude.{List, ℕ};
 ghost use Rattle.sdc_model.specs.FunctionGrammar.{IsReadAsSpelled, SpellsOne};
-ghost use Rattle.sdc_model.specs.declared.functions.Expr.{Expr};
+ghost use Rattle.source_types.specs.declared.functions.Expr.{Expr};
 
 /// The expression that is read of a text, byte by byte, is one that the grammar spells so; and each expression that the
 /// grammar spells so is read of it. So a text is refused exactly where the grammar has no expression for it.

@@ -2,10 +2,10 @@
 
 ghost use Rattle.std.specs.Prelude.{◌≡◌, ◌≤◌, ◌∷◌, ℕ, ℤ, List, Option};
 ghost use Rattle.std.specs.List.{Contains};
-ghost use Rattle.sdc_model.specs.declared.constraints.Through.{Through};
-ghost use Rattle.sdc_model.specs.declared.paths.Path.{Path};
-ghost use Rattle.sdc_model.specs.declared.pins.Node.{Node};
-ghost use Rattle.sdc_model.specs.declared.pins.Side.{Side};
+ghost use Rattle.timing_types.specs.declared.constraints.Through.{Through};
+ghost use Rattle.timing_types.specs.declared.paths.Path.{Path};
+ghost use Rattle.source_types.specs.declared.pins.Node.{Node};
+ghost use Rattle.source_types.specs.declared.pins.Side.{Side};
 ghost use Rattle.sdc_model.specs.AnalysedModes.{AnalysedMode};
 ghost use Rattle.sdc_model.specs.Classes.{IsMostMet};
 ghost use Rattle.sdc_model.specs.Required.{RequirementIs};

@@ -1,17 +1,17 @@
 //! What is true of clock edges, arcs, paths and exceptions, whoever finds them.
 
 ghost use Rattle.std.specs.Prelude.{◌≡◌, ◌∷◌, ◌↔◌, ℕ, ℤ, Bool, List, Option, Some, None, slice_get};
-ghost use Rattle.sdc_model.specs.declared.clocks.Clock.{Clock};
-ghost use Rattle.sdc_model.specs.declared.constraints.ExCommand.TheVariants.{FalsePath};
-ghost use Rattle.sdc_model.specs.declared.constraints.Exception.{Exception};
-ghost use Rattle.sdc_model.specs.declared.designs.Design.{Design};
-ghost use Rattle.sdc_model.specs.declared.graphs.Graph.{Graph};
-ghost use Rattle.sdc_model.specs.declared.paths.Path.{Path};
-ghost use Rattle.sdc_model.specs.declared.paths.PathFacts.{PathFacts};
-ghost use Rattle.sdc_model.specs.declared.paths.Periods.{Periods};
-ghost use Rattle.sdc_model.specs.declared.pins.ClockEdge.{ClockEdge};
-ghost use Rattle.sdc_model.specs.declared.pins.Node.{Node};
-ghost use Rattle.sdc_model.specs.declared.pins.Side.{Side};
+ghost use Rattle.timing_types.specs.declared.clocks.Clock.{Clock};
+ghost use Rattle.timing_types.specs.declared.constraints.ExCommand.TheVariants.{FalsePath};
+ghost use Rattle.timing_types.specs.declared.constraints.Exception.{Exception};
+ghost use Rattle.timing_types.specs.declared.designs.Design.{Design};
+ghost use Rattle.timing_types.specs.declared.graphs.Graph.{Graph};
+ghost use Rattle.timing_types.specs.declared.paths.Path.{Path};
+ghost use Rattle.timing_types.specs.declared.paths.PathFacts.{PathFacts};
+ghost use Rattle.timing_types.specs.declared.paths.Periods.{Periods};
+ghost use Rattle.source_types.specs.declared.pins.ClockEdge.{ClockEdge};
+ghost use Rattle.source_types.specs.declared.pins.Node.{Node};
+ghost use Rattle.source_types.specs.declared.pins.Side.{Side};
 ghost use Rattle.sdc_model.specs.AliveArcs.{HasAliveArc, HasArc};
 ghost use Rattle.sdc_model.specs.Analysis.{Analysis, Alive};
 ghost use Rattle.sdc_model.specs.Arrival.{Arrives, IsSourceOf};

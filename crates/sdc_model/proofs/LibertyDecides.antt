@@ -3,11 +3,11 @@ use Rattle.std.proofs.Common.{◌≡◌, Bool, true, false, List, [], ◌∷◌,
 use Rattle.std.specs.Prelude.{◌&&◌, not, is_some}
 use Rattle.std.specs.List.{list_all}
 use Rattle.std.proofs.lemmas.Bool.{and_parts}
-use Rattle.sdc_model.specs.declared.liberty_tokens.Gap.TheVariants.{Nothing, Blanks, LineEnd}
-use Rattle.sdc_model.specs.declared.liberty_tokens.LibertySymbol.{LibertySymbol}
-use Rattle.sdc_model.specs.declared.liberty_tokens.LibertySymbol.TheVariants as part
-use Rattle.sdc_model.specs.declared.liberty_tokens.LibertyToken.{LibertyToken}
-use Rattle.sdc_model.specs.declared.liberty_tokens.LibertyToken.TheVariants as token
+use Rattle.source_types.specs.declared.liberty_tokens.Gap.TheVariants.{Nothing, Blanks, LineEnd}
+use Rattle.source_types.specs.declared.liberty_tokens.LibertySymbol.{LibertySymbol}
+use Rattle.source_types.specs.declared.liberty_tokens.LibertySymbol.TheVariants as part
+use Rattle.source_types.specs.declared.liberty_tokens.LibertyToken.{LibertyToken}
+use Rattle.source_types.specs.declared.liberty_tokens.LibertyToken.TheVariants as token
 use Rattle.sdc_model.specs.LibertyGrammar.{liberty}
 use Rattle.token_grammar.proofs.Samples.{productive}
 use Rattle.token_grammar.specs.Deciding.{Decides, is_covered}

@@ -4,10 +4,10 @@ use Rattle.std.specs.Prelude.{◌&&◌, ◌||◌, Some, not, is_some, if◌then�
 use Rattle.std.specs.List.{list_all}
 use Rattle.std.proofs.lemmas.Bool.{and_from, and_parts}
 use Rattle.sdc_base.proofs.CaseFacts.{by_bool}
-use Rattle.sdc_model.specs.declared.verilog_tokens.VerilogSymbol.{VerilogSymbol}
-use Rattle.sdc_model.specs.declared.verilog_tokens.VerilogSymbol.TheVariants as part
-use Rattle.sdc_model.specs.declared.verilog_tokens.VerilogToken.{VerilogToken}
-use Rattle.sdc_model.specs.declared.verilog_tokens.VerilogToken.TheVariants as token
+use Rattle.source_types.specs.declared.verilog_tokens.VerilogSymbol.{VerilogSymbol}
+use Rattle.source_types.specs.declared.verilog_tokens.VerilogSymbol.TheVariants as part
+use Rattle.source_types.specs.declared.verilog_tokens.VerilogToken.{VerilogToken}
+use Rattle.source_types.specs.declared.verilog_tokens.VerilogToken.TheVariants as token
 use Rattle.sdc_model.specs.VerilogGrammar.{verilog}
 use Rattle.sdc_model.specs.VerilogKinds.{same_kind}
 use Rattle.token_grammar.proofs.Samples.{productive}

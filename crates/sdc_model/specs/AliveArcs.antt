@@ -4,17 +4,17 @@
 -- the output changes with the arc's input under some values of the inputs that are not known.
 use Rattle.std.specs.Prelude.{◌≡◌, ◌≢◌, ◌==◌, ◌↔◌, ℕ, Bool, true, false, List, length, Option, Some, None, slice_get, if◌then◌else◌}
 use Rattle.std.specs.List.{Contains}
-use Rattle.sdc_model.specs.declared.constraints.Disable.TheVariants as disable
-use Rattle.sdc_model.specs.declared.designs.CellInfo.{CellInfo}
-use Rattle.sdc_model.specs.declared.designs.Design.{Design}
-use Rattle.sdc_model.specs.declared.functions.Expr.{Expr}
-use Rattle.sdc_model.specs.declared.graphs.Arc.{Arc}
-use Rattle.sdc_model.specs.declared.graphs.ArcKind.{ArcKind}
-use Rattle.sdc_model.specs.declared.graphs.ArcKind.TheVariants.{Net, Cell, Launch}
-use Rattle.sdc_model.specs.declared.graphs.Graph.{Graph}
-use Rattle.sdc_model.specs.declared.modes.Mode.{Mode}
-use Rattle.sdc_model.specs.declared.pins.Node.{Node}
-use Rattle.sdc_model.specs.declared.pins.Pin.{Pin}
+use Rattle.timing_types.specs.declared.constraints.Disable.TheVariants as disable
+use Rattle.timing_types.specs.declared.designs.CellInfo.{CellInfo}
+use Rattle.timing_types.specs.declared.designs.Design.{Design}
+use Rattle.source_types.specs.declared.functions.Expr.{Expr}
+use Rattle.timing_types.specs.declared.graphs.Arc.{Arc}
+use Rattle.timing_types.specs.declared.graphs.ArcKind.{ArcKind}
+use Rattle.timing_types.specs.declared.graphs.ArcKind.TheVariants.{Net, Cell, Launch}
+use Rattle.timing_types.specs.declared.graphs.Graph.{Graph}
+use Rattle.timing_types.specs.declared.modes.Mode.{Mode}
+use Rattle.source_types.specs.declared.pins.Node.{Node}
+use Rattle.source_types.specs.declared.pins.Pin.{Pin}
 use Rattle.sdc_model.specs.ConstantValues.{Values, value_at, cell_of, place_in_cell, function_of, IsCompletion}
 use Rattle.sdc_model.specs.FunctionValue.{value_of}
 

@@ -3,10 +3,10 @@
 -- numbers that the clock map gives it.
 use Rattle.std.specs.Prelude.{◌≡◌, ℕ, List, [], ◌∷◌, map}
 use Rattle.std.specs.List.{AllZip, Contains}
-use Rattle.sdc_model.specs.declared.designs.Design.{Design}
-use Rattle.sdc_model.specs.declared.modes.Mode.{Mode}
-use Rattle.sdc_model.specs.declared.views.ClockMap.{ClockMap}
-use Rattle.sdc_model.specs.declared.views.View.{View}
+use Rattle.timing_types.specs.declared.designs.Design.{Design}
+use Rattle.timing_types.specs.declared.modes.Mode.{Mode}
+use Rattle.timing_types.specs.declared.views.ClockMap.{ClockMap}
+use Rattle.timing_types.specs.declared.views.View.{View}
 use Rattle.sdc_model.specs.Analysis.{Analysis, IsAnalysis}
 use Rattle.sdc_model.specs.ClockIdentity.{IsClockMap}
 

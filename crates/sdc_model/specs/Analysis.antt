@@ -3,15 +3,15 @@
 -- A view of a mode over a pool of arcs is seen as one too, so that a path is timed in a view as it is in a mode.
 use Rattle.std.specs.Prelude.{◌≡◌, ℕ, Bool, List, Option, Ok, slice_get}
 use Rattle.std.specs.Option.{unwrap_or}
-use Rattle.sdc_model.specs.declared.analyses.Constants.{Constants}
-use Rattle.sdc_model.specs.declared.class_sets.Pool.{Pool}
-use Rattle.sdc_model.specs.declared.clocks.Wave.{Wave}
-use Rattle.sdc_model.specs.declared.designs.Design.{Design}
-use Rattle.sdc_model.specs.declared.graphs.Arc.{Arc}
-use Rattle.sdc_model.specs.declared.graphs.Graph.{Graph}
-use Rattle.sdc_model.specs.declared.modes.Mode.{Mode}
-use Rattle.sdc_model.specs.declared.views.Arrivals.{Arrivals}
-use Rattle.sdc_model.specs.declared.views.View.{View}
+use Rattle.timing_types.specs.declared.analyses.Constants.{Constants}
+use Rattle.timing_types.specs.declared.class_sets.Pool.{Pool}
+use Rattle.timing_types.specs.declared.clocks.Wave.{Wave}
+use Rattle.timing_types.specs.declared.designs.Design.{Design}
+use Rattle.timing_types.specs.declared.graphs.Arc.{Arc}
+use Rattle.timing_types.specs.declared.graphs.Graph.{Graph}
+use Rattle.timing_types.specs.declared.modes.Mode.{Mode}
+use Rattle.timing_types.specs.declared.views.Arrivals.{Arrivals}
+use Rattle.timing_types.specs.declared.views.View.{View}
 use Rattle.sdc_model.specs.AliveArcs.{AreAlive, HasAliveArc}
 use Rattle.sdc_model.specs.Arrival.{IsArrivals}
 use Rattle.sdc_model.specs.ConstantValues.{ConstantsAre}

@@ -7,13 +7,13 @@ use Rattle.sdc_base.specs.declared.whole.TheConstants.{MOST_BYTES}
 use Rattle.sdc_base.specs.Counting.{Rose}
 use Rattle.sdc_base.specs.Files.{Reading, bytes_of}
 use Rattle.sdc_base.specs.Channels.{Written, appended, AppendsFront}
-use Rattle.sdc_model.specs.declared.answers.Status.{Status}
-use Rattle.sdc_model.specs.declared.answers.Status.TheVariants as status
-use Rattle.sdc_model.specs.declared.command_lines.CommandLine.{CommandLine}
-use Rattle.sdc_model.specs.declared.command_lines.CommandLine.TheVariants.{Edges, Merge}
-use Rattle.sdc_model.specs.declared.command_lines.Output.{Output}
-use Rattle.sdc_model.specs.declared.kinds.Fault.{Fault}
-use Rattle.sdc_model.specs.declared.modes.Mode.{Mode}
+use Rattle.source_types.specs.declared.answers.Status.{Status}
+use Rattle.source_types.specs.declared.answers.Status.TheVariants as status
+use Rattle.source_types.specs.declared.command_lines.CommandLine.{CommandLine}
+use Rattle.source_types.specs.declared.command_lines.CommandLine.TheVariants.{Edges, Merge}
+use Rattle.source_types.specs.declared.command_lines.Output.{Output}
+use Rattle.source_types.specs.declared.kinds.Fault.{Fault}
+use Rattle.timing_types.specs.declared.modes.Mode.{Mode}
 use Rattle.sdc_model.specs.ModeFiles.{SayModes, SaysFile}
 
 -- the mode files of a command line: their names, and the place of the first of them among the words

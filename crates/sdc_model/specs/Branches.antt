@@ -3,7 +3,7 @@
 -- condition is evaluated; words that are too few or too many are none of an `if`.
 use Rattle.std.specs.Prelude.{ℕ, Bool, List, [], ◌∷◌, Option, Some, None, codes, if◌then◌else◌}
 use Rattle.std.specs.Option.{option_map}
-use Rattle.sdc_model.specs.declared.built_ins.Branches.{Branches}
+use Rattle.source_types.specs.declared.built_ins.Branches.{Branches}
 use Rattle.sdc_model.specs.Words.{same_text}
 
 -- what comes next: a condition; `then` or the body of a condition; its body; what follows a body; the last body

@@ -2,11 +2,11 @@
 -- It reads: of the delays that every mode has, those are spared that match no path of a key in need under all of them. The
 -- spared ones are carried, if none of them matches a path of a key in need under the spared ones alone; else none is.
 use Rattle.std.specs.Prelude.{◌≡◌, List, []}
-use Rattle.sdc_model.specs.declared.constraints.ExCommand.TheVariants.{Delay}
-use Rattle.sdc_model.specs.declared.constraints.Exception.{Exception}
-use Rattle.sdc_model.specs.declared.designs.Design.{Design}
-use Rattle.sdc_model.specs.declared.paths.Path.{Path}
-use Rattle.sdc_model.specs.declared.views.ClockMap.{ClockMap}
+use Rattle.timing_types.specs.declared.constraints.ExCommand.TheVariants.{Delay}
+use Rattle.timing_types.specs.declared.constraints.Exception.{Exception}
+use Rattle.timing_types.specs.declared.designs.Design.{Design}
+use Rattle.timing_types.specs.declared.paths.Path.{Path}
+use Rattle.timing_types.specs.declared.views.ClockMap.{ClockMap}
 use Rattle.sdc_model.specs.AnalysedModes.{AnalysedMode}
 use Rattle.sdc_model.specs.Analysis.{Analysis}
 use Rattle.sdc_model.specs.CarriedExceptions.{IsCommonException}

@@ -3,10 +3,10 @@
 -- one; a delay where it is one of a given set of delays. Equal ones are carried once, in order of mode, then of place.
 use Rattle.std.specs.Prelude.{◌≡◌, ◌<◌, ℕ, ℤ, List, map, Some, slice_get}
 use Rattle.std.specs.List.{Contains, flat_map}
-use Rattle.sdc_model.specs.declared.constraints.ExCommand.{ExCommand}
-use Rattle.sdc_model.specs.declared.constraints.ExCommand.TheVariants.{FalsePath, Delay, Multicycle}
-use Rattle.sdc_model.specs.declared.constraints.Exception.{Exception}
-use Rattle.sdc_model.specs.declared.paths.Path.{Path}
+use Rattle.timing_types.specs.declared.constraints.ExCommand.{ExCommand}
+use Rattle.timing_types.specs.declared.constraints.ExCommand.TheVariants.{FalsePath, Delay, Multicycle}
+use Rattle.timing_types.specs.declared.constraints.Exception.{Exception}
+use Rattle.timing_types.specs.declared.paths.Path.{Path}
 use Rattle.sdc_model.specs.AnalysedModes.{AnalysedMode, InEveryMode, mode_of}
 use Rattle.sdc_model.specs.MappedClocks.{exception_without_line, mapped_exception}
 use Rattle.sdc_model.specs.Matching.{Matches}

@@ -6,17 +6,17 @@ use Rattle.std.specs.Prelude.{◌≡◌, ◌*◌, ◌^◌, ◌<◌, ◌≤◌, �
 use Rattle.std.specs.List.{Contains, sum_by}
 use Rattle.std.specs.Option.{unwrap_or}
 use Rattle.std.specs.Int.{bit_at}
-use Rattle.sdc_model.specs.declared.class_sets.Class.{Class}
-use Rattle.sdc_model.specs.declared.class_sets.ClassSets.{ClassSets}
-use Rattle.sdc_model.specs.declared.class_sets.Launched.{Launched}
-use Rattle.sdc_model.specs.declared.class_sets.Met.{Met}
-use Rattle.sdc_model.specs.declared.class_sets.Pool.{Pool}
-use Rattle.sdc_model.specs.declared.constraints.Exception.{Exception}
-use Rattle.sdc_model.specs.declared.constraints.Through.{Through}
-use Rattle.sdc_model.specs.declared.graphs.Arc.{Arc}
-use Rattle.sdc_model.specs.declared.graphs.ArcKind.TheVariants.{Launch}
-use Rattle.sdc_model.specs.declared.graphs.Graph.{Graph}
-use Rattle.sdc_model.specs.declared.pins.Node.{Node}
+use Rattle.timing_types.specs.declared.class_sets.Class.{Class}
+use Rattle.timing_types.specs.declared.class_sets.ClassSets.{ClassSets}
+use Rattle.timing_types.specs.declared.class_sets.Launched.{Launched}
+use Rattle.timing_types.specs.declared.class_sets.Met.{Met}
+use Rattle.timing_types.specs.declared.class_sets.Pool.{Pool}
+use Rattle.timing_types.specs.declared.constraints.Exception.{Exception}
+use Rattle.timing_types.specs.declared.constraints.Through.{Through}
+use Rattle.timing_types.specs.declared.graphs.Arc.{Arc}
+use Rattle.timing_types.specs.declared.graphs.ArcKind.TheVariants.{Launch}
+use Rattle.timing_types.specs.declared.graphs.Graph.{Graph}
+use Rattle.source_types.specs.declared.pins.Node.{Node}
 use Rattle.sdc_model.specs.AliveArcs.{HasAliveArc, HasArc}
 use Rattle.sdc_model.specs.Arrival.{GoesOn, Launches}
 use Rattle.sdc_model.specs.Matching.{AreMet, PointsFit}

@@ -9,18 +9,18 @@ use Rattle.std.specs.Str.{IsUtf8}
 use Rattle.sdc_base.specs.declared.memory.At.{At}
 use Rattle.sdc_base.specs.declared.memory.Stop.{Stop}
 use Rattle.sdc_base.specs.declared.memory.Stop.TheVariants as stop
-use Rattle.sdc_model.specs.declared.clocks.Clock.{Clock}
-use Rattle.sdc_model.specs.declared.clocks.Wave.{Wave}
-use Rattle.sdc_model.specs.declared.clocks.Form.TheVariants.{Primary}
-use Rattle.sdc_model.specs.declared.clocks.Early.{Early}
-use Rattle.sdc_model.specs.declared.commands.Command.{Command}
-use Rattle.sdc_model.specs.declared.commands.Part.{Part}
-use Rattle.sdc_model.specs.declared.commands.Word.{Word}
-use Rattle.sdc_model.specs.declared.kinds.Kind.{Kind}
-use Rattle.sdc_model.specs.declared.kinds.Kind.TheVariants.{Sdc}
-use Rattle.sdc_model.specs.declared.kinds.SdcKind.TheVariants.{OutOfProfile}
-use Rattle.sdc_model.specs.declared.kinds.TclKind.{TclKind}
-use Rattle.sdc_model.specs.declared.modes.Mode.{Mode}
+use Rattle.timing_types.specs.declared.clocks.Clock.{Clock}
+use Rattle.timing_types.specs.declared.clocks.Wave.{Wave}
+use Rattle.timing_types.specs.declared.clocks.Form.TheVariants.{Primary}
+use Rattle.timing_types.specs.declared.clocks.Early.{Early}
+use Rattle.source_types.specs.declared.commands.Command.{Command}
+use Rattle.source_types.specs.declared.commands.Part.{Part}
+use Rattle.source_types.specs.declared.commands.Word.{Word}
+use Rattle.source_types.specs.declared.kinds.Kind.{Kind}
+use Rattle.source_types.specs.declared.kinds.Kind.TheVariants.{Sdc}
+use Rattle.source_types.specs.declared.kinds.SdcKind.TheVariants.{OutOfProfile}
+use Rattle.source_types.specs.declared.kinds.TclKind.{TclKind}
+use Rattle.timing_types.specs.declared.modes.Mode.{Mode}
 use Rattle.sdc_model.specs.Bytes.{is_name_byte}
 use Rattle.sdc_model.specs.ClockGroups.{Groups, group_of, exclusive_pairs}
 use Rattle.sdc_model.specs.Commands.{Splits}

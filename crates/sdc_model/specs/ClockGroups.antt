@@ -4,10 +4,10 @@ use Rattle.std.specs.Prelude.{◌==◌, ◌&&◌, ◌||◌, ◌+◌, ◌++◌, �
 use Rattle.std.specs.List.{list_any, starts_with}
 use Rattle.std.specs.Prelude.{drop}
 use Rattle.std.specs.Option.{option_and_then}
-use Rattle.sdc_model.specs.declared.clocks.Clock.{Clock}
-use Rattle.sdc_model.specs.declared.clocks.Pair.{Pair}
-use Rattle.sdc_model.specs.declared.commands.Part.{Part}
-use Rattle.sdc_model.specs.declared.commands.Part.TheVariants as part
+use Rattle.timing_types.specs.declared.clocks.Clock.{Clock}
+use Rattle.timing_types.specs.declared.clocks.Pair.{Pair}
+use Rattle.source_types.specs.declared.commands.Part.{Part}
+use Rattle.source_types.specs.declared.commands.Part.TheVariants as part
 use Rattle.sdc_model.specs.Bytes.{is_blank}
 use Rattle.sdc_model.specs.ListReading.{items_of}
 use Rattle.sdc_model.specs.Words.{same_text}

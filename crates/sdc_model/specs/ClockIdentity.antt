@@ -7,18 +7,18 @@ use Rattle.std.specs.Option.{option_and_then, unwrap_or}
 use Rattle.std.specs.Ordering.{is_eq, is_lt, nat_cmp, ordering_then}
 use Rattle.std.specs.Cmp.Lexicographic.{slice_cmp}
 use Rattle.std.specs.Fmt.{decimal}
-use Rattle.sdc_model.specs.declared.clocks.Clock.{Clock}
-use Rattle.sdc_model.specs.declared.clocks.Wave.{Wave}
-use Rattle.sdc_model.specs.declared.clocks.Form.{Form}
-use Rattle.sdc_model.specs.declared.clocks.Form.TheVariants.{Primary, Generated}
-use Rattle.sdc_model.specs.declared.pins.ClockEdge.{ClockEdge}
-use Rattle.sdc_model.specs.declared.views.Arrivals.{Arrivals}
-use Rattle.sdc_model.specs.declared.views.View.{View}
-use Rattle.sdc_model.specs.declared.views.ClockMap.{ClockMap}
-use Rattle.sdc_model.specs.declared.identities.Definition.{Definition}
-use Rattle.sdc_model.specs.declared.identities.Standing.{Standing}
-use Rattle.sdc_model.specs.declared.identities.Identity.{Identity}
-use Rattle.sdc_model.specs.contracts.identities.DefinitionOrd.TheImpl as definition_order
+use Rattle.timing_types.specs.declared.clocks.Clock.{Clock}
+use Rattle.timing_types.specs.declared.clocks.Wave.{Wave}
+use Rattle.timing_types.specs.declared.clocks.Form.{Form}
+use Rattle.timing_types.specs.declared.clocks.Form.TheVariants.{Primary, Generated}
+use Rattle.source_types.specs.declared.pins.ClockEdge.{ClockEdge}
+use Rattle.timing_types.specs.declared.views.Arrivals.{Arrivals}
+use Rattle.timing_types.specs.declared.views.View.{View}
+use Rattle.timing_types.specs.declared.views.ClockMap.{ClockMap}
+use Rattle.timing_types.specs.declared.identities.Definition.{Definition}
+use Rattle.timing_types.specs.declared.identities.Standing.{Standing}
+use Rattle.timing_types.specs.declared.identities.Identity.{Identity}
+use Rattle.timing_types.specs.contracts.identities.DefinitionOrd.TheImpl as definition_order
 
 -- ---- masters
 

@@ -8,8 +8,8 @@ use Rattle.std.specs.List.{starts_with}
 use Rattle.std.specs.Option.{option_and_then}
 use Rattle.std.specs.Str.{all_ascii_digits}
 use Rattle.std.specs.Str.Parse.{digits_value, without_leading_plus}
-use Rattle.sdc_model.specs.declared.command_lines.CommandLine.{CommandLine}
-use Rattle.sdc_model.specs.declared.command_lines.CommandLine.TheVariants.{Edges, Merge}
+use Rattle.source_types.specs.declared.command_lines.CommandLine.{CommandLine}
+use Rattle.source_types.specs.declared.command_lines.CommandLine.TheVariants.{Edges, Merge}
 use Rattle.sdc_model.specs.Words.{same_text}
 
 -- the words as lists of bytes

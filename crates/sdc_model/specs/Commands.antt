@@ -4,11 +4,11 @@
 -- command begins.
 use Rattle.std.specs.Prelude.{◌≡◌, ◌<◌, ◌≤◌, ◌++◌, ◌||◌, ◌&&◌, ◌==◌, ℕ, Bool, true, false, List, [], ◌∷◌, length, drop, Option, Some, None, Result, Ok, Err, if◌then◌else◌}
 use Rattle.sdc_base.specs.declared.memory.At.{At}
-use Rattle.sdc_model.specs.declared.commands.Command.{Command}
-use Rattle.sdc_model.specs.declared.commands.Word.{Word}
-use Rattle.sdc_model.specs.declared.commands.Next.{Next}
-use Rattle.sdc_model.specs.declared.kinds.TclKind.{TclKind}
-use Rattle.sdc_model.specs.declared.kinds.TclKind.TheVariants.{ExtraAfterBrace, Unclosed}
+use Rattle.source_types.specs.declared.commands.Command.{Command}
+use Rattle.source_types.specs.declared.commands.Word.{Word}
+use Rattle.source_types.specs.declared.commands.Next.{Next}
+use Rattle.source_types.specs.declared.kinds.TclKind.{TclKind}
+use Rattle.source_types.specs.declared.kinds.TclKind.TheVariants.{ExtraAfterBrace, Unclosed}
 use Rattle.sdc_model.specs.Bytes.{before, is_end, is_space, line_after}
 use Rattle.sdc_model.specs.Continued.{behind_gap, continues, from_command, parting}
 use Rattle.sdc_model.specs.Enclosed.{behind_brace}

@@ -3,18 +3,18 @@
 -- maximum and the least minimum that a mode sets, each value by itself; kept commands as the first mode has them.
 use Rattle.std.specs.Prelude.{◌≡◌, ◌<◌, ◌≤ℤ◌, ◌⊎◌, ◌↔◌, ℕ, ℤ, List, [], ◌∷◌, map, Option, Some}
 use Rattle.std.specs.List.{Contains}
-use Rattle.sdc_model.specs.declared.constraints.CaseSet.{CaseSet}
-use Rattle.sdc_model.specs.declared.constraints.Disable.{Disable}
-use Rattle.sdc_model.specs.declared.constraints.Disable.TheVariants as disable
-use Rattle.sdc_model.specs.declared.constraints.IoDelay.{IoDelay}
-use Rattle.sdc_model.specs.declared.modes.Mode.{Mode}
-use Rattle.sdc_model.specs.declared.objects.Kept.{Kept}
-use Rattle.sdc_model.specs.declared.pins.ClockEdge.{ClockEdge}
-use Rattle.sdc_model.specs.declared.pins.Edge.{Edge}
-use Rattle.sdc_model.specs.declared.pins.Edge.TheVariants.{Rise, Fall}
-use Rattle.sdc_model.specs.declared.pins.Pin.{Pin}
-use Rattle.sdc_model.specs.declared.pins.Side.{Side}
-use Rattle.sdc_model.specs.declared.pins.Side.TheVariants.{Setup, Hold}
+use Rattle.timing_types.specs.declared.constraints.CaseSet.{CaseSet}
+use Rattle.timing_types.specs.declared.constraints.Disable.{Disable}
+use Rattle.timing_types.specs.declared.constraints.Disable.TheVariants as disable
+use Rattle.timing_types.specs.declared.constraints.IoDelay.{IoDelay}
+use Rattle.timing_types.specs.declared.modes.Mode.{Mode}
+use Rattle.timing_types.specs.declared.objects.Kept.{Kept}
+use Rattle.source_types.specs.declared.pins.ClockEdge.{ClockEdge}
+use Rattle.source_types.specs.declared.pins.Edge.{Edge}
+use Rattle.source_types.specs.declared.pins.Edge.TheVariants.{Rise, Fall}
+use Rattle.source_types.specs.declared.pins.Pin.{Pin}
+use Rattle.source_types.specs.declared.pins.Side.{Side}
+use Rattle.source_types.specs.declared.pins.Side.TheVariants.{Setup, Hold}
 use Rattle.sdc_model.specs.AliveArcs.{IsPinDisabled, IsPairDisabled}
 use Rattle.sdc_model.specs.AnalysedModes.{AnalysedMode, InEveryMode, InSomeMode, mode_of}
 use Rattle.sdc_model.specs.Limit.{delay_value}

@@ -4,17 +4,17 @@
 -- the width of its terminal; a name is that of a terminal and stands once.
 use Rattle.std.specs.Prelude.{◌==◌, ◌&&◌, ◌||◌, ℕ, Bool, true, false, not, List, [], ◌∷◌, length, map, Option, Some, None, if◌then◌else◌}
 use Rattle.std.specs.List.{find, list_any}
-use Rattle.sdc_model.specs.declared.fault_kinds.DesignKind.{DesignKind}
-use Rattle.sdc_model.specs.declared.fault_kinds.DesignKind.TheVariants as fault
-use Rattle.sdc_model.specs.declared.libraries.Library.{Library}
-use Rattle.sdc_model.specs.declared.library_cells.LibCell.{LibCell}
-use Rattle.sdc_model.specs.declared.library_cells.LibPin.{LibPin}
-use Rattle.sdc_model.specs.declared.netlists.Bit.{Bit}
-use Rattle.sdc_model.specs.declared.netlists.Link.{Link}
-use Rattle.sdc_model.specs.declared.netlists.Links.{Links}
-use Rattle.sdc_model.specs.declared.netlists.Links.TheVariants as links
-use Rattle.sdc_model.specs.declared.netlists.Module.{Module}
-use Rattle.sdc_model.specs.declared.netlists.Port.{Port}
+use Rattle.source_types.specs.declared.fault_kinds.DesignKind.{DesignKind}
+use Rattle.source_types.specs.declared.fault_kinds.DesignKind.TheVariants as fault
+use Rattle.source_types.specs.declared.libraries.Library.{Library}
+use Rattle.source_types.specs.declared.library_cells.LibCell.{LibCell}
+use Rattle.source_types.specs.declared.library_cells.LibPin.{LibPin}
+use Rattle.source_types.specs.declared.netlists.Bit.{Bit}
+use Rattle.source_types.specs.declared.netlists.Link.{Link}
+use Rattle.source_types.specs.declared.netlists.Links.{Links}
+use Rattle.source_types.specs.declared.netlists.Links.TheVariants as links
+use Rattle.source_types.specs.declared.netlists.Module.{Module}
+use Rattle.source_types.specs.declared.netlists.Port.{Port}
 use Rattle.sdc_model.specs.Instances.{Placed, Spot, a_cell, a_module, meant, stands_in, unknown}
 use Rattle.sdc_model.specs.Ranges.{width}
 use Rattle.sdc_model.specs.Words.{same_text}

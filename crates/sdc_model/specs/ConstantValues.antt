@@ -6,17 +6,17 @@ use Rattle.std.specs.Prelude.{◌≡◌, ◌≢◌, ◌<◌, ◌==◌, ◌⊎◌
 use Rattle.std.specs.List.{Contains}
 use Rattle.std.specs.Option.{option_and_then, option_flatten, option_map, option_or}
 use Rattle.sdc_base.specs.declared.memory.At.{At}
-use Rattle.sdc_model.specs.declared.analyses.Constants.{Constants}
-use Rattle.sdc_model.specs.declared.constraints.CaseSet.{CaseSet}
-use Rattle.sdc_model.specs.declared.designs.CellInfo.{CellInfo}
-use Rattle.sdc_model.specs.declared.designs.Design.{Design}
-use Rattle.sdc_model.specs.declared.designs.PinInfo.{PinInfo}
-use Rattle.sdc_model.specs.declared.designs.Source.{Source}
-use Rattle.sdc_model.specs.declared.designs.Source.TheVariants as source
-use Rattle.sdc_model.specs.declared.fault_kinds.ModeKind.{ModeKind}
-use Rattle.sdc_model.specs.declared.fault_kinds.ModeKind.TheVariants as fault
-use Rattle.sdc_model.specs.declared.functions.Expr.{Expr}
-use Rattle.sdc_model.specs.declared.modes.Mode.{Mode}
+use Rattle.timing_types.specs.declared.analyses.Constants.{Constants}
+use Rattle.timing_types.specs.declared.constraints.CaseSet.{CaseSet}
+use Rattle.timing_types.specs.declared.designs.CellInfo.{CellInfo}
+use Rattle.timing_types.specs.declared.designs.Design.{Design}
+use Rattle.timing_types.specs.declared.designs.PinInfo.{PinInfo}
+use Rattle.timing_types.specs.declared.designs.Source.{Source}
+use Rattle.timing_types.specs.declared.designs.Source.TheVariants as source
+use Rattle.source_types.specs.declared.fault_kinds.ModeKind.{ModeKind}
+use Rattle.source_types.specs.declared.fault_kinds.ModeKind.TheVariants as fault
+use Rattle.source_types.specs.declared.functions.Expr.{Expr}
+use Rattle.timing_types.specs.declared.modes.Mode.{Mode}
 use Rattle.sdc_model.specs.FunctionValue.{value_of}
 use Rattle.sdc_model.specs.Nodes.{cell_pin, driver_of, kind_of}
 

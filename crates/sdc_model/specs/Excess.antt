@@ -5,11 +5,11 @@ use Rattle.std.specs.Prelude.{◌≡◌, ◌↔◌, ℕ, ℤ, true, List, [], �
 use Rattle.std.specs.List.{Contains}
 use Rattle.std.specs.Ordering.{nat_cmp, is_lt}
 use Rattle.std.specs.Cmp.Lexicographic.{slice_cmp}
-use Rattle.sdc_model.specs.declared.merges.Listed.{Listed}
-use Rattle.sdc_model.specs.declared.paths.Path.{Path}
-use Rattle.sdc_model.specs.declared.pins.ClockEdge.{ClockEdge}
-use Rattle.sdc_model.specs.declared.pins.Pin.{Pin}
-use Rattle.sdc_model.specs.declared.pins.Side.{Side}
+use Rattle.timing_types.specs.declared.merges.Listed.{Listed}
+use Rattle.timing_types.specs.declared.paths.Path.{Path}
+use Rattle.source_types.specs.declared.pins.ClockEdge.{ClockEdge}
+use Rattle.source_types.specs.declared.pins.Pin.{Pin}
+use Rattle.source_types.specs.declared.pins.Side.{Side}
 use Rattle.sdc_model.specs.AnalysedModes.{AnalysedMode}
 use Rattle.sdc_model.specs.Analysis.{Analysis}
 use Rattle.sdc_model.specs.Keys.{side_number}

@@ -2,8 +2,8 @@
 -- A mode lets two of its clocks be timed where its exclusive pairs do not have them. Pairs have the lesser number first.
 use Rattle.std.specs.Prelude.{◌≡◌, ◌<◌, ◌⊎◌, ◌↔◌, ℕ, List, [], ◌∷◌, Some, slice_get, nat_le, if◌then◌else◌}
 use Rattle.std.specs.List.{Contains}
-use Rattle.sdc_model.specs.declared.clocks.Pair.{Pair}
-use Rattle.sdc_model.specs.declared.views.View.{View}
+use Rattle.timing_types.specs.declared.clocks.Pair.{Pair}
+use Rattle.timing_types.specs.declared.views.View.{View}
 
 -- two clocks as a pair
 abbrev pub pair_of : ℕ → ℕ → Pair

@@ -4,14 +4,14 @@
 use Rattle.std.specs.Prelude.{◌≡◌, ◌↔◌, ℕ, ℤ, List, Option, Some, None, reverse, slice_get}
 use Rattle.std.specs.List.{Contains}
 use Rattle.std.specs.Option.{option_map}
-use Rattle.sdc_model.specs.declared.constraints.Exception.{Exception}
-use Rattle.sdc_model.specs.declared.designs.Design.{Design}
-use Rattle.sdc_model.specs.declared.graphs.Graph.{Graph}
-use Rattle.sdc_model.specs.declared.paths.Path.{Path}
-use Rattle.sdc_model.specs.declared.pins.Pin.{Pin}
-use Rattle.sdc_model.specs.declared.pins.Side.{Side}
-use Rattle.sdc_model.specs.declared.reports.Explained.{Explained}
-use Rattle.sdc_model.specs.declared.reports.RelationReport.{RelationReport}
+use Rattle.timing_types.specs.declared.constraints.Exception.{Exception}
+use Rattle.timing_types.specs.declared.designs.Design.{Design}
+use Rattle.timing_types.specs.declared.graphs.Graph.{Graph}
+use Rattle.timing_types.specs.declared.paths.Path.{Path}
+use Rattle.source_types.specs.declared.pins.Pin.{Pin}
+use Rattle.source_types.specs.declared.pins.Side.{Side}
+use Rattle.timing_types.specs.declared.reports.Explained.{Explained}
+use Rattle.timing_types.specs.declared.reports.RelationReport.{RelationReport}
 use Rattle.sdc_model.specs.Analysis.{Analysis}
 use Rattle.sdc_model.specs.Excess.{EndRelation, IsLeastPath, IsOfRelation, RelationBefore}
 use Rattle.sdc_model.specs.Findings.{HasWinner}

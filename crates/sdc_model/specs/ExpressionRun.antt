@@ -4,14 +4,14 @@
 -- What a word stands for comes from a run: `Reads level word before read after` says that, inside so many parentheses
 -- of the expression, the word has this text or this fault, and what its scripts do to the state.
 use Rattle.std.specs.Prelude.{◌≡◌, ◌<◌, ◌≤◌, ◌⊎◌, ℕ, suc, List, Option, Some, None, Result, Ok, Err}
-use Rattle.sdc_model.specs.declared.commands.Word.{Word}
-use Rattle.sdc_model.specs.declared.expressions.BinaryOperator.{BinaryOperator}
-use Rattle.sdc_model.specs.declared.expressions.Scalar.{Scalar}
-use Rattle.sdc_model.specs.declared.expressions.Scalar.TheVariants as scalar
-use Rattle.sdc_model.specs.declared.kinds.Kind.{Kind}
-use Rattle.sdc_model.specs.declared.kinds.Kind.TheVariants.{Tcl}
-use Rattle.sdc_model.specs.declared.kinds.TclKind.{TclKind}
-use Rattle.sdc_model.specs.declared.kinds.TclKind.TheVariants.{BadExpr, TooDeep}
+use Rattle.source_types.specs.declared.commands.Word.{Word}
+use Rattle.source_types.specs.declared.expressions.BinaryOperator.{BinaryOperator}
+use Rattle.source_types.specs.declared.expressions.Scalar.{Scalar}
+use Rattle.source_types.specs.declared.expressions.Scalar.TheVariants as scalar
+use Rattle.source_types.specs.declared.kinds.Kind.{Kind}
+use Rattle.source_types.specs.declared.kinds.Kind.TheVariants.{Tcl}
+use Rattle.source_types.specs.declared.kinds.TclKind.{TclKind}
+use Rattle.source_types.specs.declared.kinds.TclKind.TheVariants.{BadExpr, TooDeep}
 use Rattle.sdc_model.specs.ExpressionForm.{IsExpression, Tree, binary, levels_of, number, parentheses, unary, word}
 use Rattle.sdc_model.specs.ExpressionValue.{changed, computed, decided, joined}
 

@@ -5,11 +5,11 @@ use Rattle.std.specs.Prelude.{◌≡◌, ◌==◌, ◌||◌, ◌&&◌, ℕ, Bool
 use Rattle.sdc_base.specs.declared.fixed.NumberError.{NumberError}
 use Rattle.sdc_base.specs.declared.fixed.NumberError.TheVariants.{DivideByZero, NumberForm, NumberRange}
 use Rattle.sdc_base.specs.Number.{Number, read_number}
-use Rattle.sdc_model.specs.declared.expressions.BinaryOperator.{BinaryOperator}
-use Rattle.sdc_model.specs.declared.expressions.BinaryOperator.TheVariants as operator
-use Rattle.sdc_model.specs.declared.expressions.ExpressionToken.{ExpressionToken}
-use Rattle.sdc_model.specs.declared.expressions.ExpressionToken.TheVariants as token
-use Rattle.sdc_model.specs.declared.kinds.TclKind.{TclKind}
+use Rattle.source_types.specs.declared.expressions.BinaryOperator.{BinaryOperator}
+use Rattle.source_types.specs.declared.expressions.BinaryOperator.TheVariants as operator
+use Rattle.source_types.specs.declared.expressions.ExpressionToken.{ExpressionToken}
+use Rattle.source_types.specs.declared.expressions.ExpressionToken.TheVariants as token
+use Rattle.source_types.specs.declared.kinds.TclKind.{TclKind}
 use Rattle.sdc_model.specs.Bytes.{before, begins_with, behind, is_digit, is_space}
 use Rattle.sdc_model.specs.Commands.{ArePieces}
 use Rattle.sdc_model.specs.Continued.{continues}

@@ -7,14 +7,14 @@ use Rattle.sdc_base.specs.declared.fixed.NumberError.{NumberError}
 use Rattle.sdc_base.specs.declared.fixed.NumberError.TheVariants.{DivideByZero, NumberForm, NumberRange}
 use Rattle.sdc_base.specs.Number.{Number, read_number}
 use Rattle.sdc_base.specs.WrittenNumber.{number_text_of}
-use Rattle.sdc_model.specs.declared.expressions.BinaryOperator.{BinaryOperator}
-use Rattle.sdc_model.specs.declared.expressions.BinaryOperator.TheVariants.{Add, And, Divide, Equal, Greater, GreaterEqual, Less, LessEqual, Multiply, NotEqual, Or, Remainder, Subtract, TextEqual, TextNotEqual}
-use Rattle.sdc_model.specs.declared.expressions.Scalar.{Scalar}
-use Rattle.sdc_model.specs.declared.expressions.Scalar.TheVariants as scalar
-use Rattle.sdc_model.specs.declared.expressions.UnaryOperator.{UnaryOperator}
-use Rattle.sdc_model.specs.declared.expressions.UnaryOperator.TheVariants.{Minus, Not, Plus}
-use Rattle.sdc_model.specs.declared.kinds.TclKind.{TclKind}
-use Rattle.sdc_model.specs.declared.kinds.TclKind.TheVariants as kind
+use Rattle.source_types.specs.declared.expressions.BinaryOperator.{BinaryOperator}
+use Rattle.source_types.specs.declared.expressions.BinaryOperator.TheVariants.{Add, And, Divide, Equal, Greater, GreaterEqual, Less, LessEqual, Multiply, NotEqual, Or, Remainder, Subtract, TextEqual, TextNotEqual}
+use Rattle.source_types.specs.declared.expressions.Scalar.{Scalar}
+use Rattle.source_types.specs.declared.expressions.Scalar.TheVariants as scalar
+use Rattle.source_types.specs.declared.expressions.UnaryOperator.{UnaryOperator}
+use Rattle.source_types.specs.declared.expressions.UnaryOperator.TheVariants.{Minus, Not, Plus}
+use Rattle.source_types.specs.declared.kinds.TclKind.{TclKind}
+use Rattle.source_types.specs.declared.kinds.TclKind.TheVariants as kind
 use Rattle.sdc_model.specs.Words.{same_text}
 
 -- ---- texts, numbers and truth

@@ -5,25 +5,25 @@ use Rattle.std.specs.Prelude.{◌≡◌, ◌⊎◌, ◌++◌, ℕ, List, [], ◌
 use Rattle.std.specs.Fmt.{decimal}
 use Rattle.std.specs.Option.{unwrap_or}
 use Rattle.sdc_base.specs.Channels.{Written}
-use Rattle.sdc_model.specs.declared.answers.Status.{Status}
-use Rattle.sdc_model.specs.declared.answers.Status.TheVariants as status
-use Rattle.sdc_model.specs.declared.command_lines.CommandLine.{CommandLine}
-use Rattle.sdc_model.specs.declared.command_lines.CommandLine.TheVariants.{Edges, Merge}
-use Rattle.sdc_model.specs.declared.fault_kinds.DesignKind.{DesignKind}
-use Rattle.sdc_model.specs.declared.fault_kinds.DesignKind.TheVariants as design
-use Rattle.sdc_model.specs.declared.fault_kinds.ModeKind.{ModeKind}
-use Rattle.sdc_model.specs.declared.fault_kinds.ModeKind.TheVariants as mode
-use Rattle.sdc_model.specs.declared.fault_kinds.VerilogKind.{VerilogKind}
-use Rattle.sdc_model.specs.declared.fault_kinds.VerilogKind.TheVariants as verilog
-use Rattle.sdc_model.specs.declared.kinds.Fault.{Fault}
-use Rattle.sdc_model.specs.declared.kinds.Kind.{Kind}
-use Rattle.sdc_model.specs.declared.kinds.Kind.TheVariants as kind
-use Rattle.sdc_model.specs.declared.kinds.LibKind.{LibKind}
-use Rattle.sdc_model.specs.declared.kinds.LibKind.TheVariants as lib
-use Rattle.sdc_model.specs.declared.kinds.SdcKind.{SdcKind}
-use Rattle.sdc_model.specs.declared.kinds.SdcKind.TheVariants as sdc
-use Rattle.sdc_model.specs.declared.kinds.TclKind.{TclKind}
-use Rattle.sdc_model.specs.declared.kinds.TclKind.TheVariants as tcl
+use Rattle.source_types.specs.declared.answers.Status.{Status}
+use Rattle.source_types.specs.declared.answers.Status.TheVariants as status
+use Rattle.source_types.specs.declared.command_lines.CommandLine.{CommandLine}
+use Rattle.source_types.specs.declared.command_lines.CommandLine.TheVariants.{Edges, Merge}
+use Rattle.source_types.specs.declared.fault_kinds.DesignKind.{DesignKind}
+use Rattle.source_types.specs.declared.fault_kinds.DesignKind.TheVariants as design
+use Rattle.source_types.specs.declared.fault_kinds.ModeKind.{ModeKind}
+use Rattle.source_types.specs.declared.fault_kinds.ModeKind.TheVariants as mode
+use Rattle.source_types.specs.declared.fault_kinds.VerilogKind.{VerilogKind}
+use Rattle.source_types.specs.declared.fault_kinds.VerilogKind.TheVariants as verilog
+use Rattle.source_types.specs.declared.kinds.Fault.{Fault}
+use Rattle.source_types.specs.declared.kinds.Kind.{Kind}
+use Rattle.source_types.specs.declared.kinds.Kind.TheVariants as kind
+use Rattle.source_types.specs.declared.kinds.LibKind.{LibKind}
+use Rattle.source_types.specs.declared.kinds.LibKind.TheVariants as lib
+use Rattle.source_types.specs.declared.kinds.SdcKind.{SdcKind}
+use Rattle.source_types.specs.declared.kinds.SdcKind.TheVariants as sdc
+use Rattle.source_types.specs.declared.kinds.TclKind.{TclKind}
+use Rattle.source_types.specs.declared.kinds.TclKind.TheVariants as tcl
 
 -- ---- words in their places
 

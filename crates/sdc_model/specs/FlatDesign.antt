@@ -4,21 +4,21 @@
 -- net to net until there is none or it is no net.
 use Rattle.std.specs.Prelude.{◌≡◌, ◌++◌, ◌+◌, ◌⊎◌, ℕ, true, false, List, [], ◌∷◌, length, map, slice_get, codes, Option, Some, None}
 use Rattle.std.specs.List.{AllZip, Contains, enumerate_from, flat_map}
-use Rattle.sdc_model.specs.declared.designs.CellInfo.{CellInfo}
-use Rattle.sdc_model.specs.declared.designs.Design.{Design}
-use Rattle.sdc_model.specs.declared.designs.NetInfo.{NetInfo}
-use Rattle.sdc_model.specs.declared.designs.PinInfo.{PinInfo}
-use Rattle.sdc_model.specs.declared.designs.Role.{Role}
-use Rattle.sdc_model.specs.declared.designs.Role.TheVariants.{InPort, OutPort}
-use Rattle.sdc_model.specs.declared.designs.Source.{Source}
-use Rattle.sdc_model.specs.declared.designs.Source.TheVariants as source
-use Rattle.sdc_model.specs.declared.libraries.Library.{Library}
-use Rattle.sdc_model.specs.declared.library_cells.Direction.{Direction}
-use Rattle.sdc_model.specs.declared.library_cells.Direction.TheVariants as direction
-use Rattle.sdc_model.specs.declared.library_cells.LibPin.{LibPin}
-use Rattle.sdc_model.specs.declared.netlists.Bit.{Bit}
-use Rattle.sdc_model.specs.declared.netlists.Module.{Module}
-use Rattle.sdc_model.specs.declared.netlists.Port.{Port}
+use Rattle.timing_types.specs.declared.designs.CellInfo.{CellInfo}
+use Rattle.timing_types.specs.declared.designs.Design.{Design}
+use Rattle.timing_types.specs.declared.designs.NetInfo.{NetInfo}
+use Rattle.timing_types.specs.declared.designs.PinInfo.{PinInfo}
+use Rattle.timing_types.specs.declared.designs.Role.{Role}
+use Rattle.timing_types.specs.declared.designs.Role.TheVariants.{InPort, OutPort}
+use Rattle.timing_types.specs.declared.designs.Source.{Source}
+use Rattle.timing_types.specs.declared.designs.Source.TheVariants as source
+use Rattle.source_types.specs.declared.libraries.Library.{Library}
+use Rattle.source_types.specs.declared.library_cells.Direction.{Direction}
+use Rattle.source_types.specs.declared.library_cells.Direction.TheVariants as direction
+use Rattle.source_types.specs.declared.library_cells.LibPin.{LibPin}
+use Rattle.source_types.specs.declared.netlists.Bit.{Bit}
+use Rattle.source_types.specs.declared.netlists.Module.{Module}
+use Rattle.source_types.specs.declared.netlists.Port.{Port}
 use Rattle.sdc_model.specs.FlatNets.{Feed, FlatNet, NetBit, Origin, PinPlace, bit_name, bit_of, connected_pins, feeds_of, from_net, from_pin, from_value, net_bit, net_name, nets_in, origin_at, pin_of, port_bit, sources}
 use Rattle.sdc_model.specs.Instances.{Placed, PlacedCell, cells_of, full_name, instances_of, path_of, spots_of}
 use Rattle.sdc_model.specs.Ranges.{indices}

@@ -4,11 +4,11 @@
 use Rattle.std.specs.Prelude.{◌≡◌, ◌+◌, ◌≤◌, ◌<◌, ◌||◌, ◌⊎◌, ℕ, Bool, true, false, List, [], length, map, take, slice_get, nat_lt, Some}
 use Rattle.std.specs.List.{list_any}
 use Rattle.sdc_base.specs.declared.memory.At.{At}
-use Rattle.sdc_model.specs.declared.fault_kinds.DesignKind.{DesignKind}
-use Rattle.sdc_model.specs.declared.fault_kinds.DesignKind.TheVariants as fault
-use Rattle.sdc_model.specs.declared.libraries.Library.{Library}
-use Rattle.sdc_model.specs.declared.library_cells.LibPin.{LibPin}
-use Rattle.sdc_model.specs.declared.netlists.Module.{Module}
+use Rattle.source_types.specs.declared.fault_kinds.DesignKind.{DesignKind}
+use Rattle.source_types.specs.declared.fault_kinds.DesignKind.TheVariants as fault
+use Rattle.source_types.specs.declared.libraries.Library.{Library}
+use Rattle.source_types.specs.declared.library_cells.LibPin.{LibPin}
+use Rattle.source_types.specs.declared.netlists.Module.{Module}
 use Rattle.sdc_model.specs.Connections.{instance_fault}
 use Rattle.sdc_model.specs.FlatDesign.{ComesBack, Flat, FlatCell, FlatPin, pin_name}
 use Rattle.sdc_model.specs.FlatNets.{FlatNet, bit_of, net_name, sources}

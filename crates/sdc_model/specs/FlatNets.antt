@@ -6,16 +6,16 @@ use Rattle.std.specs.Prelude.{◌++◌, ◌&&◌, ℕ, Bool, true, false, List, 
 use Rattle.std.specs.Fmt.{decimal}
 use Rattle.std.specs.Cmp.Lexicographic.{pointwise}
 use Rattle.std.specs.List.{enumerate_from, filter_map, flat_map, zip}
-use Rattle.sdc_model.specs.declared.libraries.Library.{Library}
-use Rattle.sdc_model.specs.declared.library_cells.Direction.{Direction}
-use Rattle.sdc_model.specs.declared.library_cells.Direction.TheVariants as direction
-use Rattle.sdc_model.specs.declared.library_cells.LibPin.{LibPin}
-use Rattle.sdc_model.specs.declared.netlists.Assign.{Assign}
-use Rattle.sdc_model.specs.declared.netlists.Bit.{Bit}
-use Rattle.sdc_model.specs.declared.netlists.Bit.TheVariants as bits
-use Rattle.sdc_model.specs.declared.netlists.Module.{Module}
-use Rattle.sdc_model.specs.declared.netlists.Port.{Port}
-use Rattle.sdc_model.specs.declared.netlists.Wire.{Wire}
+use Rattle.source_types.specs.declared.libraries.Library.{Library}
+use Rattle.source_types.specs.declared.library_cells.Direction.{Direction}
+use Rattle.source_types.specs.declared.library_cells.Direction.TheVariants as direction
+use Rattle.source_types.specs.declared.library_cells.LibPin.{LibPin}
+use Rattle.source_types.specs.declared.netlists.Assign.{Assign}
+use Rattle.source_types.specs.declared.netlists.Bit.{Bit}
+use Rattle.source_types.specs.declared.netlists.Bit.TheVariants as bits
+use Rattle.source_types.specs.declared.netlists.Module.{Module}
+use Rattle.source_types.specs.declared.netlists.Port.{Port}
+use Rattle.source_types.specs.declared.netlists.Wire.{Wire}
 use Rattle.sdc_model.specs.Connections.{connected, names_of, pins_of, ports_of}
 use Rattle.sdc_model.specs.Instances.{PlacedCell, Spot, cells_of, path_of, spots_of}
 use Rattle.sdc_model.specs.Ranges.{indices}

@@ -5,12 +5,12 @@ use Rattle.std.specs.Prelude.{◌≡◌, ◌⊎◌, ℕ, true, false, List, map,
 use Rattle.std.specs.List.{All}
 use Rattle.sdc_base.specs.declared.memory.At.{At}
 use Rattle.sdc_base.specs.Time.{IsUnit}
-use Rattle.sdc_model.specs.declared.designs.Design.{Design}
-use Rattle.sdc_model.specs.declared.fault_kinds.DesignKind.{DesignKind}
-use Rattle.sdc_model.specs.declared.fault_kinds.DesignKind.TheVariants as fault
-use Rattle.sdc_model.specs.declared.libraries.Library.{Library}
-use Rattle.sdc_model.specs.declared.library_cells.LibCell.{LibCell}
-use Rattle.sdc_model.specs.declared.netlists.Module.{Module}
+use Rattle.timing_types.specs.declared.designs.Design.{Design}
+use Rattle.source_types.specs.declared.fault_kinds.DesignKind.{DesignKind}
+use Rattle.source_types.specs.declared.fault_kinds.DesignKind.TheVariants as fault
+use Rattle.source_types.specs.declared.libraries.Library.{Library}
+use Rattle.source_types.specs.declared.library_cells.LibCell.{LibCell}
+use Rattle.source_types.specs.declared.netlists.Module.{Module}
 use Rattle.sdc_model.specs.FlatDesign.{Flat, FlatCell, IsFlatDesign, flat}
 use Rattle.sdc_model.specs.FlatFaults.{CellHas, HasNoFault, InstanceHas, IsFirstFault, NetHas, cell_line, instance_line, is_too_large, net_line}
 use Rattle.sdc_model.specs.FlatNets.{FlatNet}

@@ -7,10 +7,10 @@
 -- with blanks before and behind any of these; a whole text is a sum. Each rule of `Spells` says of which parts a text is,
 -- and the expression that it means then. Of several blanks between two operands any may be the and, with one meaning.
 use Rattle.std.specs.Prelude.{◌≡◌, ◌↔◌, ◌⊎◌, ℕ, List, [], ◌∷◌, ◌++◌, Some}
-use Rattle.sdc_model.specs.declared.function_texts.Sign.{Sign}
-use Rattle.sdc_model.specs.declared.function_texts.Sign.TheVariants as sign
-use Rattle.sdc_model.specs.declared.functions.Expr.{Expr}
-use Rattle.sdc_model.specs.declared.functions.Expr.TheVariants as expr
+use Rattle.source_types.specs.declared.function_texts.Sign.{Sign}
+use Rattle.source_types.specs.declared.function_texts.Sign.TheVariants as sign
+use Rattle.source_types.specs.declared.functions.Expr.{Expr}
+use Rattle.source_types.specs.declared.functions.Expr.TheVariants as expr
 use Rattle.sdc_model.specs.FunctionText.{expression, sign_of, word_meaning}
 
 -- the levels of binding

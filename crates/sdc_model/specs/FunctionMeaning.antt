@@ -3,11 +3,11 @@
 -- The names are the inputs in order, then an empty one, then the state variables and the other pins. Read `meaning`.
 use Rattle.std.specs.Prelude.{◌+◌, ◌++◌, ◌∷◌, ◌||◌, ◌&&◌, ◌==◌, ℕ, Bool, not, nat_le, nat_lt, if◌then◌else◌, List, [], length, drop, get_or, Option, Some, None, Result, Ok, Err}
 use Rattle.std.specs.List.{list_any, prefix_len}
-use Rattle.sdc_model.specs.declared.functions.Expr.{Expr}
-use Rattle.sdc_model.specs.declared.functions.Expr.TheOpen.{Expr-F}
-use Rattle.sdc_model.specs.declared.functions.Expr.TheFolds.{fold-Expr}
-use Rattle.sdc_model.specs.declared.kinds.LibKind.{LibKind}
-use Rattle.sdc_model.specs.declared.kinds.LibKind.TheVariants.{FunctionForm, FunctionWide, UnknownPin}
+use Rattle.source_types.specs.declared.functions.Expr.{Expr}
+use Rattle.source_types.specs.declared.functions.Expr.TheOpen.{Expr-F}
+use Rattle.source_types.specs.declared.functions.Expr.TheFolds.{fold-Expr}
+use Rattle.source_types.specs.declared.kinds.LibKind.{LibKind}
+use Rattle.source_types.specs.declared.kinds.LibKind.TheVariants.{FunctionForm, FunctionWide, UnknownPin}
 use Rattle.sdc_model.specs.FunctionText.{expression}
 use Rattle.sdc_model.specs.Words.{same_text}
 

@@ -3,13 +3,13 @@
 -- kind group to the left. The text is read byte by byte from the left: read `step` first.
 use Rattle.std.specs.Prelude.{◌||◌, ◌==◌, ℕ, not, if◌then◌else◌, List, [], ◌∷◌, ◌++◌, Option, Some, None, option_and_then, option_map}
 use Rattle.std.specs.List.{prefix_len}
-use Rattle.sdc_model.specs.declared.function_texts.Operand.{Operand}
-use Rattle.sdc_model.specs.declared.function_texts.Operand.TheVariants as operand
-use Rattle.sdc_model.specs.declared.function_texts.Pending.{Pending}
-use Rattle.sdc_model.specs.declared.function_texts.Sign.{Sign}
-use Rattle.sdc_model.specs.declared.function_texts.Sign.TheVariants as sign
-use Rattle.sdc_model.specs.declared.functions.Expr.{Expr}
-use Rattle.sdc_model.specs.declared.functions.Expr.TheVariants as expr
+use Rattle.source_types.specs.declared.function_texts.Operand.{Operand}
+use Rattle.source_types.specs.declared.function_texts.Operand.TheVariants as operand
+use Rattle.source_types.specs.declared.function_texts.Pending.{Pending}
+use Rattle.source_types.specs.declared.function_texts.Sign.{Sign}
+use Rattle.source_types.specs.declared.function_texts.Sign.TheVariants as sign
+use Rattle.source_types.specs.declared.functions.Expr.{Expr}
+use Rattle.source_types.specs.declared.functions.Expr.TheVariants as expr
 use Rattle.sdc_model.specs.Words.{same_text}
 
 -- what a byte is

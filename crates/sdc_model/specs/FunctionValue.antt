@@ -3,9 +3,9 @@
 -- A completion is a number whose bit i is the value of input i. Read it from `value_of` on.
 use Rattle.std.specs.Prelude.{◌≡◌, ◌≢◌, ◌+◌, ◌^◌, ◌<◌, ◌&&◌, ◌||◌, ◌==◌, ℕ, Bool, true, false, not, nat_lt, List, get_or}
 use Rattle.std.specs.Int.{bit_at}
-use Rattle.sdc_model.specs.declared.functions.Expr.{Expr}
-use Rattle.sdc_model.specs.declared.functions.Expr.TheOpen.{Expr-F}
-use Rattle.sdc_model.specs.declared.functions.Expr.TheFolds.{fold-Expr}
+use Rattle.source_types.specs.declared.functions.Expr.{Expr}
+use Rattle.source_types.specs.declared.functions.Expr.TheOpen.{Expr-F}
+use Rattle.source_types.specs.declared.functions.Expr.TheFolds.{fold-Expr}
 
 -- exactly one of two
 abbrev pub differs : Bool → Bool → Bool

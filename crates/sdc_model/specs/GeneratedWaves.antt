@@ -6,17 +6,17 @@ use Rattle.std.specs.Prelude.{◌+◌, ◌*◌, ◌==◌, ◌||◌, ℕ, zero, s
 use Rattle.std.specs.List.{list_any}
 use Rattle.std.specs.Option.{option_and_then, option_or, unwrap_or}
 use Rattle.sdc_base.specs.declared.memory.At.{At}
-use Rattle.sdc_model.specs.declared.analyses.Waves.{Waves}
-use Rattle.sdc_model.specs.declared.clocks.Clock.{Clock}
-use Rattle.sdc_model.specs.declared.clocks.Form.{Form}
-use Rattle.sdc_model.specs.declared.clocks.Form.TheVariants.{Primary, Generated}
-use Rattle.sdc_model.specs.declared.clocks.Wave.{Wave}
-use Rattle.sdc_model.specs.declared.fault_kinds.ModeKind.{ModeKind}
-use Rattle.sdc_model.specs.declared.fault_kinds.ModeKind.TheVariants.{MasterUnclear, MasterCycle}
-use Rattle.sdc_model.specs.declared.modes.Mode.{Mode}
-use Rattle.sdc_model.specs.declared.pins.ClockEdge.{ClockEdge}
-use Rattle.sdc_model.specs.declared.pins.Pin.{Pin}
-use Rattle.sdc_model.specs.declared.views.Arrivals.{Arrivals}
+use Rattle.timing_types.specs.declared.analyses.Waves.{Waves}
+use Rattle.timing_types.specs.declared.clocks.Clock.{Clock}
+use Rattle.timing_types.specs.declared.clocks.Form.{Form}
+use Rattle.timing_types.specs.declared.clocks.Form.TheVariants.{Primary, Generated}
+use Rattle.timing_types.specs.declared.clocks.Wave.{Wave}
+use Rattle.source_types.specs.declared.fault_kinds.ModeKind.{ModeKind}
+use Rattle.source_types.specs.declared.fault_kinds.ModeKind.TheVariants.{MasterUnclear, MasterCycle}
+use Rattle.timing_types.specs.declared.modes.Mode.{Mode}
+use Rattle.source_types.specs.declared.pins.ClockEdge.{ClockEdge}
+use Rattle.source_types.specs.declared.pins.Pin.{Pin}
+use Rattle.timing_types.specs.declared.views.Arrivals.{Arrivals}
 use Rattle.sdc_model.specs.ClockIdentity.{edges_at}
 use Rattle.sdc_model.specs.WaveShapes.{generated_wave}
 

@@ -2,10 +2,10 @@
 -- built in. This project's own. A host is known by its answers: what it may answer in a state to the line, the name and
 -- the words behind the name, and the state that it is then left in. Where it refuses, it is left as it was.
 use Rattle.std.specs.Prelude.{◌≡◌, ℕ, List, Result, Ok, Err}
-use Rattle.sdc_model.specs.declared.kinds.Kind.{Kind}
-use Rattle.sdc_model.specs.declared.objects.Object.{Object}
-use Rattle.sdc_model.specs.declared.objects.Value.{Value}
-use Rattle.sdc_model.specs.declared.objects.Value.TheVariants as value
+use Rattle.source_types.specs.declared.kinds.Kind.{Kind}
+use Rattle.timing_types.specs.declared.objects.Object.{Object}
+use Rattle.timing_types.specs.declared.objects.Value.{Value}
+use Rattle.timing_types.specs.declared.objects.Value.TheVariants as value
 use Rattle.sdc_model.specs.ExpressionRun.{Turn}
 use Rattle.sdc_model.specs.Variables.{Variable, with_variable}
 

@@ -4,10 +4,10 @@
 -- next one; a module is not entered where it stands in itself.
 use Rattle.std.specs.Prelude.{◌++◌, ℕ, zero, suc, Bool, List, [], ◌∷◌, length, map, codes, Option, Some, None, if◌then◌else◌}
 use Rattle.std.specs.List.{enumerate_from, filter_map, find, flat_map, list_any}
-use Rattle.sdc_model.specs.declared.libraries.Library.{Library}
-use Rattle.sdc_model.specs.declared.library_cells.LibCell.{LibCell}
-use Rattle.sdc_model.specs.declared.netlists.Instance.{Instance}
-use Rattle.sdc_model.specs.declared.netlists.Module.{Module}
+use Rattle.source_types.specs.declared.libraries.Library.{Library}
+use Rattle.source_types.specs.declared.library_cells.LibCell.{LibCell}
+use Rattle.source_types.specs.declared.netlists.Instance.{Instance}
+use Rattle.source_types.specs.declared.netlists.Module.{Module}
 use Rattle.sdc_model.specs.Words.{same_text}
 
 -- ---- what a name is

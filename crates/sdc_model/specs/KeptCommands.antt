@@ -4,11 +4,11 @@
 -- nets, each kind by number and each object once.
 use Rattle.std.specs.Prelude.{◌≡◌, ◌<◌, ◌⊎◌, ℕ, Bool, true, List, [], ◌∷◌, length, codes, Some, slice_get}
 use Rattle.std.specs.List.{All, list_any}
-use Rattle.sdc_model.specs.declared.designs.Design.{Design}
-use Rattle.sdc_model.specs.declared.objects.Object.{Object}
-use Rattle.sdc_model.specs.declared.objects.Object.TheVariants as object
-use Rattle.sdc_model.specs.declared.objects.Value.{Value}
-use Rattle.sdc_model.specs.declared.objects.Value.TheVariants as value
+use Rattle.timing_types.specs.declared.designs.Design.{Design}
+use Rattle.timing_types.specs.declared.objects.Object.{Object}
+use Rattle.timing_types.specs.declared.objects.Object.TheVariants as object
+use Rattle.timing_types.specs.declared.objects.Value.{Value}
+use Rattle.timing_types.specs.declared.objects.Value.TheVariants as value
 use Rattle.sdc_model.specs.Nodes.{IsPort}
 use Rattle.sdc_model.specs.Words.{same_text}
 

@@ -3,13 +3,13 @@
 -- prefixes of two nodes or more with a wanted class, the least is the one whose nodes, read from the end, are least.
 use Rattle.std.specs.Prelude.{◌≡◌, ◌<◌, ◌↔◌, ℕ, List, ◌∷◌, length, map, reverse, Some, slice_get}
 use Rattle.std.specs.List.{All, Contains}
-use Rattle.sdc_model.specs.declared.class_sets.Class.{Class}
-use Rattle.sdc_model.specs.declared.class_sets.ClassSets.{ClassSets}
-use Rattle.sdc_model.specs.declared.class_sets.Launched.{Launched}
-use Rattle.sdc_model.specs.declared.class_sets.Pool.{Pool}
-use Rattle.sdc_model.specs.declared.keys.KeyResult.{KeyResult}
-use Rattle.sdc_model.specs.declared.keys.RelationResult.{RelationResult}
-use Rattle.sdc_model.specs.declared.pins.Node.{Node}
+use Rattle.timing_types.specs.declared.class_sets.Class.{Class}
+use Rattle.timing_types.specs.declared.class_sets.ClassSets.{ClassSets}
+use Rattle.timing_types.specs.declared.class_sets.Launched.{Launched}
+use Rattle.timing_types.specs.declared.class_sets.Pool.{Pool}
+use Rattle.timing_types.specs.declared.keys.KeyResult.{KeyResult}
+use Rattle.timing_types.specs.declared.keys.RelationResult.{RelationResult}
+use Rattle.source_types.specs.declared.pins.Node.{Node}
 use Rattle.sdc_model.specs.Classes.{IsClassOf, IsPrefix, classes_at}
 use Rattle.sdc_model.specs.Excess.{EndRelation, RelationBefore}
 use Rattle.sdc_model.specs.Nodes.{IsAtMost, node_number}

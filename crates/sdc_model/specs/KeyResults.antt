@@ -4,17 +4,17 @@
 -- limit of every path of the class in each view, and the place of the exception that wins there.
 use Rattle.std.specs.Prelude.{◌≡◌, ◌<◌, ℕ, ℤ, List, ◌∷◌, length, map, Option, Some, None, slice_get}
 use Rattle.std.specs.List.{All, Contains}
-use Rattle.sdc_model.specs.declared.class_sets.Class.{Class}
-use Rattle.sdc_model.specs.declared.class_sets.ClassSets.{ClassSets}
-use Rattle.sdc_model.specs.declared.class_sets.Launched.{Launched}
-use Rattle.sdc_model.specs.declared.class_sets.Pool.{Pool}
-use Rattle.sdc_model.specs.declared.designs.Design.{Design}
-use Rattle.sdc_model.specs.declared.keys.ClassResult.{ClassResult}
-use Rattle.sdc_model.specs.declared.keys.KeyResult.{KeyResult}
-use Rattle.sdc_model.specs.declared.paths.Path.{Path}
-use Rattle.sdc_model.specs.declared.pins.Node.{Node}
-use Rattle.sdc_model.specs.declared.pins.Side.{Side}
-use Rattle.sdc_model.specs.declared.views.View.{View}
+use Rattle.timing_types.specs.declared.class_sets.Class.{Class}
+use Rattle.timing_types.specs.declared.class_sets.ClassSets.{ClassSets}
+use Rattle.timing_types.specs.declared.class_sets.Launched.{Launched}
+use Rattle.timing_types.specs.declared.class_sets.Pool.{Pool}
+use Rattle.timing_types.specs.declared.designs.Design.{Design}
+use Rattle.timing_types.specs.declared.keys.ClassResult.{ClassResult}
+use Rattle.timing_types.specs.declared.keys.KeyResult.{KeyResult}
+use Rattle.timing_types.specs.declared.paths.Path.{Path}
+use Rattle.source_types.specs.declared.pins.Node.{Node}
+use Rattle.source_types.specs.declared.pins.Side.{Side}
+use Rattle.timing_types.specs.declared.views.View.{View}
 use Rattle.sdc_model.specs.AnalysedModes.{AnalysedMode}
 use Rattle.sdc_model.specs.Analysis.{analysis_of_view}
 use Rattle.sdc_model.specs.Classes.{IsClassOf, IsClassOfPath, IsPrefix, classes_at}

@@ -4,15 +4,15 @@
 use Rattle.std.specs.Prelude.{◌≡◌, ◌≢◌, ◌⊎◌, ℕ, ℤ, true, List, [], ◌∷◌, Option, Some, None}
 use Rattle.std.specs.Ordering.{nat_cmp, is_lt}
 use Rattle.std.specs.Cmp.Lexicographic.{slice_cmp}
-use Rattle.sdc_model.specs.declared.designs.Design.{Design}
-use Rattle.sdc_model.specs.declared.designs.Role.{Role}
-use Rattle.sdc_model.specs.declared.designs.Role.TheVariants.{InPort}
-use Rattle.sdc_model.specs.declared.paths.Path.{Path}
-use Rattle.sdc_model.specs.declared.pins.ClockEdge.{ClockEdge}
-use Rattle.sdc_model.specs.declared.pins.Edge.TheVariants.{Rise}
-use Rattle.sdc_model.specs.declared.pins.Node.{Node}
-use Rattle.sdc_model.specs.declared.pins.Side.{Side}
-use Rattle.sdc_model.specs.declared.pins.Side.TheVariants.{Setup, Hold}
+use Rattle.timing_types.specs.declared.designs.Design.{Design}
+use Rattle.timing_types.specs.declared.designs.Role.{Role}
+use Rattle.timing_types.specs.declared.designs.Role.TheVariants.{InPort}
+use Rattle.timing_types.specs.declared.paths.Path.{Path}
+use Rattle.source_types.specs.declared.pins.ClockEdge.{ClockEdge}
+use Rattle.source_types.specs.declared.pins.Edge.TheVariants.{Rise}
+use Rattle.source_types.specs.declared.pins.Node.{Node}
+use Rattle.source_types.specs.declared.pins.Side.{Side}
+use Rattle.source_types.specs.declared.pins.Side.TheVariants.{Setup, Hold}
 use Rattle.sdc_model.specs.AnalysedModes.{AnalysedMode}
 use Rattle.sdc_model.specs.Analysis.{Analysis}
 use Rattle.sdc_model.specs.Nodes.{edge_number, node_at, node_number, role_of}

@@ -3,11 +3,11 @@
 -- It reads: the related pins of each pin, in the order of the pins and of the text; arcs; checks; the cell.
 use Rattle.std.specs.Prelude.{◌+◌, ◌==◌, ◌||◌, ◌&&◌, ℕ, Bool, true, false, not, List, [], ◌∷◌, ◌++◌, filter, length, map, codes, get_or, nat_lt, if◌then◌else◌, Option, Some, None}
 use Rattle.std.specs.List.{filter_map, flat_map, fold, list_any}
-use Rattle.sdc_model.specs.declared.library_cells.Direction.{Direction}
-use Rattle.sdc_model.specs.declared.library_cells.Direction.TheVariants as direction
-use Rattle.sdc_model.specs.declared.library_cells.LibArc.{LibArc}
-use Rattle.sdc_model.specs.declared.library_cells.LibCell.{LibCell}
-use Rattle.sdc_model.specs.declared.library_cells.LibCheck.{LibCheck}
+use Rattle.source_types.specs.declared.library_cells.Direction.{Direction}
+use Rattle.source_types.specs.declared.library_cells.Direction.TheVariants as direction
+use Rattle.source_types.specs.declared.library_cells.LibArc.{LibArc}
+use Rattle.source_types.specs.declared.library_cells.LibCell.{LibCell}
+use Rattle.source_types.specs.declared.library_cells.LibCheck.{LibCheck}
 use Rattle.sdc_model.specs.FunctionText.{place_in}
 use Rattle.sdc_model.specs.Keys.{side_number}
 use Rattle.sdc_model.specs.LibertyCells.{NamedPin, direction_of, has_wide_function, is_left_out, lib_pin, name_of, pin_names, pins, words_of}

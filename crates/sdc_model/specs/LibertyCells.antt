@@ -3,15 +3,15 @@
 -- It reads: the names of a cell; the directions of its pins; their functions.
 use Rattle.std.specs.Prelude.{◌+◌, ◌||◌, ◌&&◌, ℕ, Bool, true, false, not, List, [], ◌∷◌, ◌++◌, filter, length, map, take, codes, get_or, nat_lt, if◌then◌else◌, Option, Some, None, option_map, Result, Ok, Err}
 use Rattle.std.specs.List.{flat_map, list_any}
-use Rattle.sdc_model.specs.declared.functions.Expr.{Expr}
-use Rattle.sdc_model.specs.declared.functions.Expr.TheFolds.{fold-Expr}
-use Rattle.sdc_model.specs.declared.functions.Expr.TheOpen.{Expr-F}
-use Rattle.sdc_model.specs.declared.functions.Expr.TheVariants as expr
-use Rattle.sdc_model.specs.declared.kinds.LibKind.{LibKind}
-use Rattle.sdc_model.specs.declared.kinds.LibKind.TheVariants.{FunctionWide}
-use Rattle.sdc_model.specs.declared.library_cells.Direction.{Direction}
-use Rattle.sdc_model.specs.declared.library_cells.Direction.TheVariants as direction
-use Rattle.sdc_model.specs.declared.library_cells.LibPin.{LibPin}
+use Rattle.source_types.specs.declared.functions.Expr.{Expr}
+use Rattle.source_types.specs.declared.functions.Expr.TheFolds.{fold-Expr}
+use Rattle.source_types.specs.declared.functions.Expr.TheOpen.{Expr-F}
+use Rattle.source_types.specs.declared.functions.Expr.TheVariants as expr
+use Rattle.source_types.specs.declared.kinds.LibKind.{LibKind}
+use Rattle.source_types.specs.declared.kinds.LibKind.TheVariants.{FunctionWide}
+use Rattle.source_types.specs.declared.library_cells.Direction.{Direction}
+use Rattle.source_types.specs.declared.library_cells.Direction.TheVariants as direction
+use Rattle.source_types.specs.declared.library_cells.LibPin.{LibPin}
 use Rattle.sdc_model.specs.FunctionMeaning as function
 use Rattle.sdc_model.specs.LibertyStatements.{Member, Statement, arguments, groups, is_group, last_value, members}
 use Rattle.sdc_model.specs.LibertyTokens.{parts}

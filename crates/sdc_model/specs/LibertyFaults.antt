@@ -5,9 +5,9 @@
 use Rattle.std.specs.Prelude.{◌++◌, ◌==◌, ◌&&◌, ℕ, Bool, false, not, List, [], ◌∷◌, codes, nat_lt, if◌then◌else◌, Option, Some, None, Result, Ok, Err}
 use Rattle.std.specs.List.{flat_map, list_all, list_any}
 use Rattle.sdc_base.specs.declared.memory.At.{At}
-use Rattle.sdc_model.specs.declared.functions.Expr.{Expr}
-use Rattle.sdc_model.specs.declared.kinds.LibKind.{LibKind}
-use Rattle.sdc_model.specs.declared.kinds.LibKind.TheVariants.{DoubleCell, FunctionForm, LibForm, UnknownPin}
+use Rattle.source_types.specs.declared.functions.Expr.{Expr}
+use Rattle.source_types.specs.declared.kinds.LibKind.{LibKind}
+use Rattle.source_types.specs.declared.kinds.LibKind.TheVariants.{DoubleCell, FunctionForm, LibForm, UnknownPin}
 use Rattle.sdc_model.specs.LibertyCells.{function_meaning, is_among, is_left_out, name_of, pin_groups, pin_names, state_variables, words_of}
 use Rattle.sdc_model.specs.LibertyStatements.{Member, Statement, groups, is_group, last_value, members, value_named}
 use Rattle.sdc_model.specs.Words.{same_text}

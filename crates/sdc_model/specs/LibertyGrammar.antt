@@ -7,12 +7,12 @@ use Rattle.std.specs.List.{list_any}
 use Rattle.token_grammar.specs.declared.grammar.Break.{Break}
 use Rattle.token_grammar.specs.declared.grammar.Break.TheVariants as break
 use Rattle.token_grammar.specs.Texts.{Breaks, Table}
-use Rattle.sdc_model.specs.declared.liberty_tokens.Gap.{Gap}
-use Rattle.sdc_model.specs.declared.liberty_tokens.Gap.TheVariants.{Nothing, Blanks, LineEnd}
-use Rattle.sdc_model.specs.declared.liberty_tokens.LibertySymbol.{LibertySymbol}
-use Rattle.sdc_model.specs.declared.liberty_tokens.LibertySymbol.TheVariants as part
-use Rattle.sdc_model.specs.declared.liberty_tokens.LibertyToken.{LibertyToken}
-use Rattle.sdc_model.specs.declared.liberty_tokens.LibertyToken.TheVariants as token
+use Rattle.source_types.specs.declared.liberty_tokens.Gap.{Gap}
+use Rattle.source_types.specs.declared.liberty_tokens.Gap.TheVariants.{Nothing, Blanks, LineEnd}
+use Rattle.source_types.specs.declared.liberty_tokens.LibertySymbol.{LibertySymbol}
+use Rattle.source_types.specs.declared.liberty_tokens.LibertySymbol.TheVariants as part
+use Rattle.source_types.specs.declared.liberty_tokens.LibertyToken.{LibertyToken}
+use Rattle.source_types.specs.declared.liberty_tokens.LibertyToken.TheVariants as token
 use Rattle.sdc_model.specs.LastLine.{last_line_of}
 use Rattle.sdc_model.specs.LibertyTokens.{Form, IsLexed, Token, bare, quoted, sign}
 use Rattle.sdc_model.specs.Words.{same_text}

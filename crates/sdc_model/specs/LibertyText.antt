@@ -4,9 +4,9 @@
 use Rattle.std.specs.Prelude.{◌≡◌, ◌⊎◌, ℕ, pos, List, [], ◌∷◌, map, Option, Some, None, Result, Ok, Err}
 use Rattle.std.specs.Str.{IsUtf8}
 use Rattle.sdc_base.specs.declared.memory.At.{At}
-use Rattle.sdc_model.specs.declared.kinds.LibKind.{LibKind}
-use Rattle.sdc_model.specs.declared.kinds.LibKind.TheVariants.{LibForm, NotText}
-use Rattle.sdc_model.specs.declared.libraries.Library.{Library}
+use Rattle.source_types.specs.declared.kinds.LibKind.{LibKind}
+use Rattle.source_types.specs.declared.kinds.LibKind.TheVariants.{LibForm, NotText}
+use Rattle.source_types.specs.declared.libraries.Library.{Library}
 use Rattle.sdc_model.specs.LastLine.{broken_text_line}
 use Rattle.sdc_model.specs.LibertyArcs.{lib_cell}
 use Rattle.sdc_model.specs.LibertyFaults.{cells_of, faults_of, first_unit, libraries_of}

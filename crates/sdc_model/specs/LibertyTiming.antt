@@ -3,12 +3,12 @@
 -- It reads: the table of types; senses; the arc or check of one pair of pins, given by their places in the cell.
 use Rattle.std.specs.Prelude.{◌&&◌, ℕ, Bool, true, false, not, List, [], ◌∷◌, codes, Option, Some, None}
 use Rattle.std.specs.List.{find}
-use Rattle.sdc_model.specs.declared.library_cells.LibArc.{LibArc}
-use Rattle.sdc_model.specs.declared.library_cells.LibCheck.{LibCheck}
-use Rattle.sdc_model.specs.declared.pins.Edge.{Edge}
-use Rattle.sdc_model.specs.declared.pins.Edge.TheVariants.{Rise, Fall}
-use Rattle.sdc_model.specs.declared.pins.Side.{Side}
-use Rattle.sdc_model.specs.declared.pins.Side.TheVariants.{Setup, Hold}
+use Rattle.source_types.specs.declared.library_cells.LibArc.{LibArc}
+use Rattle.source_types.specs.declared.library_cells.LibCheck.{LibCheck}
+use Rattle.source_types.specs.declared.pins.Edge.{Edge}
+use Rattle.source_types.specs.declared.pins.Edge.TheVariants.{Rise, Fall}
+use Rattle.source_types.specs.declared.pins.Side.{Side}
+use Rattle.source_types.specs.declared.pins.Side.TheVariants.{Setup, Hold}
 use Rattle.sdc_model.specs.Words.{same_text}
 
 -- ---- types of timing

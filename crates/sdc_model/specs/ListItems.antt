@@ -2,8 +2,8 @@
 -- spaces, newlines and continued lines. Braces, quotes and backslashes act in an item as in a word of a command, while
 -- `$`, `[`, `]`, `;` and `#` stand for themselves. It reads: the items stand in a row, and the text ends, or one breaks.
 use Rattle.std.specs.Prelude.{◌≡◌, ◌++◌, ◌||◌, ◌&&◌, ◌==◌, ℕ, Bool, true, false, List, [], ◌∷◌, Option, Some, None, Result, Ok, Err, if◌then◌else◌}
-use Rattle.sdc_model.specs.declared.kinds.TclKind.{TclKind}
-use Rattle.sdc_model.specs.declared.kinds.TclKind.TheVariants.{ExtraAfterBrace, Unclosed}
+use Rattle.source_types.specs.declared.kinds.TclKind.{TclKind}
+use Rattle.source_types.specs.declared.kinds.TclKind.TheVariants.{ExtraAfterBrace, Unclosed}
 use Rattle.sdc_model.specs.Bytes.{before, is_space}
 use Rattle.sdc_model.specs.Continued.{continues}
 use Rattle.sdc_model.specs.Enclosed.{behind_brace}

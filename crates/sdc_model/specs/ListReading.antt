@@ -3,8 +3,8 @@
 -- found, so that one more step than the text has bytes is enough, and what stands for no step at all is never asked for.
 use Rattle.std.specs.Prelude.{ℕ, zero, suc, List, [], ◌∷◌, Option, Some, None, Result, Ok, Err, length}
 use Rattle.std.specs.Result.{result_ok}
-use Rattle.sdc_model.specs.declared.kinds.TclKind.{TclKind}
-use Rattle.sdc_model.specs.declared.kinds.TclKind.TheVariants.{Unclosed}
+use Rattle.source_types.specs.declared.kinds.TclKind.{TclKind}
+use Rattle.source_types.specs.declared.kinds.TclKind.TheVariants.{Unclosed}
 use Rattle.sdc_model.specs.Bytes.{before}
 use Rattle.sdc_model.specs.Enclosed.{behind_brace}
 use Rattle.sdc_model.specs.ListItems.{ItemFront, behind_parting, ended_bare_item, ended_closed_item, form_by, item_piece_at}

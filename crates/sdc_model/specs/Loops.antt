@@ -2,9 +2,9 @@
 -- It reads: a loop is a cycle of alive arcs that launch nothing, its nodes in the direction of the arcs. The answered one
 -- begins at the least node that lies on a loop, is the shortest from there, and of these the least as a list of nodes.
 use Rattle.std.specs.Prelude.{◌≡◌, ◌<◌, ◌≤◌, ◌⊎◌, ℕ, List, [], ◌∷◌, length, Some, slice_get}
-use Rattle.sdc_model.specs.declared.analyses.Cycle.{Cycle}
-use Rattle.sdc_model.specs.declared.graphs.Arc.{Arc}
-use Rattle.sdc_model.specs.declared.pins.Node.{Node}
+use Rattle.timing_types.specs.declared.analyses.Cycle.{Cycle}
+use Rattle.timing_types.specs.declared.graphs.Arc.{Arc}
+use Rattle.source_types.specs.declared.pins.Node.{Node}
 use Rattle.sdc_model.specs.Analysis.{Analysis, Alive}
 use Rattle.sdc_model.specs.Arrival.{GoesOn, IsSource, ClockArrives}
 use Rattle.sdc_model.specs.Nodes.{IsAtMost, node_number}

@@ -3,15 +3,15 @@
 -- Lists of clocks, and of objects with clocks among them, are put in order again.
 use Rattle.std.specs.Prelude.{◌≡◌, ◌==◌, ◌&&◌, ◌||◌, ℕ, Bool, List, [], ◌∷◌, map, Option, Some, None, slice_get, nat_lt, if◌then◌else◌}
 use Rattle.std.specs.Option.{unwrap_or}
-use Rattle.sdc_model.specs.declared.constraints.Exception.{Exception}
-use Rattle.sdc_model.specs.declared.constraints.Points.{Points}
-use Rattle.sdc_model.specs.declared.constraints.Points.TheVariants as points
-use Rattle.sdc_model.specs.declared.objects.Kept.{Kept}
-use Rattle.sdc_model.specs.declared.objects.Object.{Object}
-use Rattle.sdc_model.specs.declared.objects.Object.TheVariants as object
-use Rattle.sdc_model.specs.declared.objects.Value.{Value}
-use Rattle.sdc_model.specs.declared.objects.Value.TheVariants as value
-use Rattle.sdc_model.specs.declared.pins.ClockEdge.{ClockEdge}
+use Rattle.timing_types.specs.declared.constraints.Exception.{Exception}
+use Rattle.timing_types.specs.declared.constraints.Points.{Points}
+use Rattle.timing_types.specs.declared.constraints.Points.TheVariants as points
+use Rattle.timing_types.specs.declared.objects.Kept.{Kept}
+use Rattle.timing_types.specs.declared.objects.Object.{Object}
+use Rattle.timing_types.specs.declared.objects.Object.TheVariants as object
+use Rattle.timing_types.specs.declared.objects.Value.{Value}
+use Rattle.timing_types.specs.declared.objects.Value.TheVariants as value
+use Rattle.source_types.specs.declared.pins.ClockEdge.{ClockEdge}
 use Rattle.sdc_model.specs.KeptCommands.{kind_order, number_of}
 
 -- ---- lists in order

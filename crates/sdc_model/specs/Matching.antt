@@ -4,16 +4,16 @@
 -- each through list, each with a node of the list. The first and the last node of the path count.
 use Rattle.std.specs.Prelude.{◌≡◌, ◌<◌, ◌↔◌, ℕ, true, List, Option, Some, None, slice_get, reverse, length}
 use Rattle.std.specs.List.{Contains, AllZip}
-use Rattle.sdc_model.specs.declared.constraints.Exception.{Exception}
-use Rattle.sdc_model.specs.declared.constraints.Points.{Points}
-use Rattle.sdc_model.specs.declared.constraints.Points.TheVariants as points
-use Rattle.sdc_model.specs.declared.constraints.Through.{Through}
-use Rattle.sdc_model.specs.declared.paths.Path.{Path}
-use Rattle.sdc_model.specs.declared.paths.PathFacts.{PathFacts}
-use Rattle.sdc_model.specs.declared.pins.ClockEdge.{ClockEdge}
-use Rattle.sdc_model.specs.declared.pins.Edge.{Edge}
-use Rattle.sdc_model.specs.declared.pins.Node.{Node}
-use Rattle.sdc_model.specs.declared.pins.Side.{Side}
+use Rattle.timing_types.specs.declared.constraints.Exception.{Exception}
+use Rattle.timing_types.specs.declared.constraints.Points.{Points}
+use Rattle.timing_types.specs.declared.constraints.Points.TheVariants as points
+use Rattle.timing_types.specs.declared.constraints.Through.{Through}
+use Rattle.timing_types.specs.declared.paths.Path.{Path}
+use Rattle.timing_types.specs.declared.paths.PathFacts.{PathFacts}
+use Rattle.source_types.specs.declared.pins.ClockEdge.{ClockEdge}
+use Rattle.source_types.specs.declared.pins.Edge.{Edge}
+use Rattle.source_types.specs.declared.pins.Node.{Node}
+use Rattle.source_types.specs.declared.pins.Side.{Side}
 use Rattle.sdc_model.specs.TimingPath.{Ends, ends_of_path}
 
 -- the edge that is given, if any, is this one

@@ -2,10 +2,10 @@
 -- This project's own rule. It reads: the modes are analysed; three sets of delays are tried; the merged mode has the
 -- carried delays and a line for each key in need under them; the list speaks of the merged mode's own analysis.
 use Rattle.std.specs.Prelude.{List}
-use Rattle.sdc_model.specs.declared.constraints.Exception.{Exception}
-use Rattle.sdc_model.specs.declared.designs.Design.{Design}
-use Rattle.sdc_model.specs.declared.merges.Merged.{Merged}
-use Rattle.sdc_model.specs.declared.modes.Mode.{Mode}
+use Rattle.timing_types.specs.declared.constraints.Exception.{Exception}
+use Rattle.timing_types.specs.declared.designs.Design.{Design}
+use Rattle.timing_types.specs.declared.merges.Merged.{Merged}
+use Rattle.timing_types.specs.declared.modes.Mode.{Mode}
 use Rattle.sdc_model.specs.AnalysedModes.{AnalysedMode, AreAnalysed}
 use Rattle.sdc_model.specs.Analysis.{Analysis, IsAnalysis}
 use Rattle.sdc_model.specs.CarriedDelays.{AreTried, IsCarriedDelay}

@@ -2,10 +2,10 @@
 -- It reads: the merged clocks are those of clock identity; two are exclusive where no mode has both and lets them be timed;
 -- then the parts that the modes have in common, and the exceptions that are carried with the set of delays.
 use Rattle.std.specs.Prelude.{◌≡◌, List, [], ◌++◌, length}
-use Rattle.sdc_model.specs.declared.constraints.Exception.{Exception}
-use Rattle.sdc_model.specs.declared.designs.Design.{Design}
-use Rattle.sdc_model.specs.declared.modes.Mode.{Mode}
-use Rattle.sdc_model.specs.declared.views.ClockMap.{ClockMap}
+use Rattle.timing_types.specs.declared.constraints.Exception.{Exception}
+use Rattle.timing_types.specs.declared.designs.Design.{Design}
+use Rattle.timing_types.specs.declared.modes.Mode.{Mode}
+use Rattle.timing_types.specs.declared.views.ClockMap.{ClockMap}
 use Rattle.sdc_model.specs.AnalysedModes.{AnalysedMode, views_of_modes}
 use Rattle.sdc_model.specs.Analysis.{Analysis, IsAnalysis}
 use Rattle.sdc_model.specs.CarriedExceptions.{AreCarried}

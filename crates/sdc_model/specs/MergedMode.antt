@@ -2,8 +2,8 @@
 -- It reads: the merged clocks are those of clock identity, over the modes with their own waveforms; the exclusive ones
 -- are exactly those that no mode has both of and lets be timed; there is no other part, and nothing is listed or left.
 use Rattle.std.specs.Prelude.{◌≡◌, ℕ, List, [], length}
-use Rattle.sdc_model.specs.declared.merges.Merged.{Merged}
-use Rattle.sdc_model.specs.declared.modes.Mode.{Mode}
+use Rattle.timing_types.specs.declared.merges.Merged.{Merged}
+use Rattle.timing_types.specs.declared.modes.Mode.{Mode}
 use Rattle.sdc_model.specs.ClockIdentity.{IsClockMap}
 use Rattle.sdc_model.specs.Exclusive.{AreExclusivePairs}
 use Rattle.sdc_model.specs.PlainViews.{views_of}

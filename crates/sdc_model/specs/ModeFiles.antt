@@ -4,11 +4,11 @@ use Rattle.std.specs.Prelude.{◌≡◌, ◌+◌, ◌<◌, ◌≤◌, ◌⊎◌,
 use Rattle.sdc_base.specs.declared.outside.NamedBytes.{NamedBytes}
 use Rattle.sdc_base.specs.declared.whole.TheConstants.{MOST_BYTES}
 use Rattle.sdc_base.specs.Files.{bytes_of}
-use Rattle.sdc_model.specs.declared.kinds.Kind.{Kind}
-use Rattle.sdc_model.specs.declared.kinds.Kind.TheVariants.{Sdc, TooLong}
-use Rattle.sdc_model.specs.declared.kinds.SdcKind.TheVariants.{TooMany}
-use Rattle.sdc_model.specs.declared.kinds.Fault.{Fault}
-use Rattle.sdc_model.specs.declared.modes.Mode.{Mode}
+use Rattle.source_types.specs.declared.kinds.Kind.{Kind}
+use Rattle.source_types.specs.declared.kinds.Kind.TheVariants.{Sdc, TooLong}
+use Rattle.source_types.specs.declared.kinds.SdcKind.TheVariants.{TooMany}
+use Rattle.source_types.specs.declared.kinds.Fault.{Fault}
+use Rattle.timing_types.specs.declared.modes.Mode.{Mode}
 use Rattle.sdc_model.specs.ClockFile.{SaysMode}
 
 -- a mode, where the clocks so far and its own are not too many

@@ -1,11 +1,11 @@
 -- Modes apart from lines: what two files say alike, on whatever lines they say it. This project's own rule.
 -- It reads: every line is 0, and there are no notes.
 use Rattle.std.specs.Prelude.{◌≡◌, [], map}
-use Rattle.sdc_model.specs.declared.constraints.CaseSet.{CaseSet}
-use Rattle.sdc_model.specs.declared.constraints.Disable.{Disable}
-use Rattle.sdc_model.specs.declared.constraints.Disable.TheVariants as disable
-use Rattle.sdc_model.specs.declared.modes.Mode.{Mode}
-use Rattle.sdc_model.specs.declared.objects.Kept.{Kept}
+use Rattle.timing_types.specs.declared.constraints.CaseSet.{CaseSet}
+use Rattle.timing_types.specs.declared.constraints.Disable.{Disable}
+use Rattle.timing_types.specs.declared.constraints.Disable.TheVariants as disable
+use Rattle.timing_types.specs.declared.modes.Mode.{Mode}
+use Rattle.timing_types.specs.declared.objects.Kept.{Kept}
 use Rattle.sdc_model.specs.MappedClocks.{exception_without_line}
 use Rattle.sdc_model.specs.PlainViews.{without_line}
 

@@ -2,15 +2,15 @@
 -- Here stand `set`, and `expr`, `foreach` and `if`, which run expressions and bodies; a body opens a level as a bracket
 -- does. It reads: by the values of a command's words, what it gives and what it does to the world.
 use Rattle.std.specs.Prelude.{◌++◌, ℕ, Bool, List, [], ◌∷◌, map, Option, Some, None, Ok, codes, if◌then◌else◌}
-use Rattle.sdc_model.specs.declared.built_ins.Branch.{Branch}
-use Rattle.sdc_model.specs.declared.built_ins.Branches.{Branches}
-use Rattle.sdc_model.specs.declared.built_ins.CommandName.{CommandName}
-use Rattle.sdc_model.specs.declared.built_ins.CommandName.TheVariants as command
-use Rattle.sdc_model.specs.declared.commands.Word.{Word}
-use Rattle.sdc_model.specs.declared.expressions.Scalar.{Scalar}
-use Rattle.sdc_model.specs.declared.kinds.TclKind.TheVariants.{WrongArgs}
-use Rattle.sdc_model.specs.declared.objects.Value.{Value}
-use Rattle.sdc_model.specs.declared.objects.Value.TheVariants as value
+use Rattle.source_types.specs.declared.built_ins.Branch.{Branch}
+use Rattle.source_types.specs.declared.built_ins.Branches.{Branches}
+use Rattle.source_types.specs.declared.built_ins.CommandName.{CommandName}
+use Rattle.source_types.specs.declared.built_ins.CommandName.TheVariants as command
+use Rattle.source_types.specs.declared.commands.Word.{Word}
+use Rattle.source_types.specs.declared.expressions.Scalar.{Scalar}
+use Rattle.source_types.specs.declared.kinds.TclKind.TheVariants.{WrongArgs}
+use Rattle.timing_types.specs.declared.objects.Value.{Value}
+use Rattle.timing_types.specs.declared.objects.Value.TheVariants as value
 use Rattle.sdc_model.specs.Branches.{branches_of}
 use Rattle.sdc_model.specs.BuiltIns.{Concats, Counts, HasItems, Indexes, list_made, no_text}
 use Rattle.sdc_model.specs.ExpressionRun.{RunsExpression, Turn}

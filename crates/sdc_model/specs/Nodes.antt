@@ -5,16 +5,16 @@ use Rattle.std.specs.Prelude.{◌≡◌, ◌+◌, ◌*◌, ◌⊎◌, ℕ, true,
 use Rattle.std.specs.Option.{option_map}
 use Rattle.std.specs.Ordering.{nat_cmp, is_le}
 use Rattle.std.specs.Cmp.Lexicographic.{slice_cmp}
-use Rattle.sdc_model.specs.declared.designs.CellInfo.{CellInfo}
-use Rattle.sdc_model.specs.declared.designs.Design.{Design}
-use Rattle.sdc_model.specs.declared.designs.Role.{Role}
-use Rattle.sdc_model.specs.declared.designs.Role.TheVariants.{InPort, OutPort, CellOther}
-use Rattle.sdc_model.specs.declared.designs.Source.{Source}
-use Rattle.sdc_model.specs.declared.library_cells.LibCell.{LibCell}
-use Rattle.sdc_model.specs.declared.pins.ClockEdge.{ClockEdge}
-use Rattle.sdc_model.specs.declared.pins.Edge.{Edge}
-use Rattle.sdc_model.specs.declared.pins.Edge.TheVariants.{Rise, Fall}
-use Rattle.sdc_model.specs.declared.pins.Node.{Node}
+use Rattle.timing_types.specs.declared.designs.CellInfo.{CellInfo}
+use Rattle.timing_types.specs.declared.designs.Design.{Design}
+use Rattle.timing_types.specs.declared.designs.Role.{Role}
+use Rattle.timing_types.specs.declared.designs.Role.TheVariants.{InPort, OutPort, CellOther}
+use Rattle.timing_types.specs.declared.designs.Source.{Source}
+use Rattle.source_types.specs.declared.library_cells.LibCell.{LibCell}
+use Rattle.source_types.specs.declared.pins.ClockEdge.{ClockEdge}
+use Rattle.source_types.specs.declared.pins.Edge.{Edge}
+use Rattle.source_types.specs.declared.pins.Edge.TheVariants.{Rise, Fall}
+use Rattle.source_types.specs.declared.pins.Node.{Node}
 
 -- ---- numbers
 

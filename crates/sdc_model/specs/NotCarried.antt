@@ -5,17 +5,17 @@ use Rattle.std.specs.Prelude.{◌≡◌, ◌⊎◌, ◌↔◌, ℕ, true, List, 
 use Rattle.std.specs.List.{Contains}
 use Rattle.std.specs.Ordering.{nat_cmp, is_lt, ordering_then}
 use Rattle.std.specs.Cmp.Lexicographic.{slice_cmp}
-use Rattle.sdc_model.specs.declared.constraints.CaseSet.{CaseSet}
-use Rattle.sdc_model.specs.declared.constraints.Disable.{Disable}
-use Rattle.sdc_model.specs.declared.constraints.ExCommand.{ExCommand}
-use Rattle.sdc_model.specs.declared.constraints.ExCommand.TheVariants.{FalsePath, Delay, Multicycle}
-use Rattle.sdc_model.specs.declared.constraints.Exception.{Exception}
-use Rattle.sdc_model.specs.declared.merges.Left.{Left}
-use Rattle.sdc_model.specs.declared.objects.Kept.{Kept}
-use Rattle.sdc_model.specs.declared.objects.Value.{Value}
-use Rattle.sdc_model.specs.declared.objects.Value.TheVariants as value
-use Rattle.sdc_model.specs.declared.pins.Side.{Side}
-use Rattle.sdc_model.specs.declared.pins.Side.TheVariants.{Setup, Hold}
+use Rattle.timing_types.specs.declared.constraints.CaseSet.{CaseSet}
+use Rattle.timing_types.specs.declared.constraints.Disable.{Disable}
+use Rattle.timing_types.specs.declared.constraints.ExCommand.{ExCommand}
+use Rattle.timing_types.specs.declared.constraints.ExCommand.TheVariants.{FalsePath, Delay, Multicycle}
+use Rattle.timing_types.specs.declared.constraints.Exception.{Exception}
+use Rattle.timing_types.specs.declared.merges.Left.{Left}
+use Rattle.timing_types.specs.declared.objects.Kept.{Kept}
+use Rattle.timing_types.specs.declared.objects.Value.{Value}
+use Rattle.timing_types.specs.declared.objects.Value.TheVariants as value
+use Rattle.source_types.specs.declared.pins.Side.{Side}
+use Rattle.source_types.specs.declared.pins.Side.TheVariants.{Setup, Hold}
 use Rattle.sdc_model.specs.AnalysedModes.{AnalysedMode, mode_of}
 use Rattle.sdc_model.specs.CarriedExceptions.{IsCarried, common_form}
 use Rattle.sdc_model.specs.CommonParts.{IsCommonCase, IsCommonDisable, IsCommonKept, disable_line}

@@ -2,10 +2,10 @@
 -- and scripts, and where a word of a form ends. It reads: at the front of a text stands a piece with the text
 -- behind it, or the end of the word, or a fault.
 use Rattle.std.specs.Prelude.{◌==◌, ◌||◌, ◌++◌, ℕ, Bool, false, not, List, [], ◌∷◌, Option, Some, None, Result, Ok, Err, if◌then◌else◌}
-use Rattle.sdc_model.specs.declared.commands.Part.{Part}
-use Rattle.sdc_model.specs.declared.commands.Part.TheVariants.{Script, Variable}
-use Rattle.sdc_model.specs.declared.kinds.TclKind.{TclKind}
-use Rattle.sdc_model.specs.declared.kinds.TclKind.TheVariants.{BadWord, Unclosed}
+use Rattle.source_types.specs.declared.commands.Part.{Part}
+use Rattle.source_types.specs.declared.commands.Part.TheVariants.{Script, Variable}
+use Rattle.source_types.specs.declared.kinds.TclKind.{TclKind}
+use Rattle.source_types.specs.declared.kinds.TclKind.TheVariants.{BadWord, Unclosed}
 use Rattle.sdc_model.specs.Bytes.{before, begins_with, behind, front, is_end, is_name_byte, is_space}
 use Rattle.sdc_model.specs.Continued.{behind_continued, continues}
 use Rattle.sdc_model.specs.Enclosed.{behind_bracket}

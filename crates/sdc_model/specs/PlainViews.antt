@@ -2,12 +2,12 @@
 -- Every clock is primary, each has its wave, and the clocks can be counted. Two modes may have the same clocks.
 use Rattle.std.specs.Prelude.{◌≡◌, ◌+◌, ◌^◌, ◌≤◌, ℕ, List, [], ◌∷◌, ◌++◌, length, map}
 use Rattle.std.specs.List.{AllZip}
-use Rattle.sdc_model.specs.declared.clocks.Clock.{Clock}
-use Rattle.sdc_model.specs.declared.clocks.Wave.{Wave}
-use Rattle.sdc_model.specs.declared.clocks.Form.{Form}
-use Rattle.sdc_model.specs.declared.clocks.Form.TheVariants.{Primary, Generated}
-use Rattle.sdc_model.specs.declared.modes.Mode.{Mode}
-use Rattle.sdc_model.specs.declared.views.View.{View}
+use Rattle.timing_types.specs.declared.clocks.Clock.{Clock}
+use Rattle.timing_types.specs.declared.clocks.Wave.{Wave}
+use Rattle.timing_types.specs.declared.clocks.Form.{Form}
+use Rattle.timing_types.specs.declared.clocks.Form.TheVariants.{Primary, Generated}
+use Rattle.timing_types.specs.declared.modes.Mode.{Mode}
+use Rattle.timing_types.specs.declared.views.View.{View}
 
 abbrev pub IsPrimary : Form → Type 0
 IsPrimary (Primary wave) = Unit {0}

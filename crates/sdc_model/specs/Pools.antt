@@ -3,12 +3,12 @@
 -- delay to it. The pool of a merge has the arcs alive in the merged mode, and the exceptions of all modes.
 use Rattle.std.specs.Prelude.{◌≡◌, ◌<◌, ◌⊎◌, ◌↔◌, ℕ, Bool, List, [], ◌∷◌, map, Some, slice_get}
 use Rattle.std.specs.List.{All, Contains, flat_map}
-use Rattle.sdc_model.specs.declared.class_sets.Launched.{Launched}
-use Rattle.sdc_model.specs.declared.class_sets.Pool.{Pool}
-use Rattle.sdc_model.specs.declared.constraints.Exception.{Exception}
-use Rattle.sdc_model.specs.declared.constraints.IoDelay.{IoDelay}
-use Rattle.sdc_model.specs.declared.graphs.Graph.{Graph}
-use Rattle.sdc_model.specs.declared.pins.Node.{Node}
+use Rattle.timing_types.specs.declared.class_sets.Launched.{Launched}
+use Rattle.timing_types.specs.declared.class_sets.Pool.{Pool}
+use Rattle.timing_types.specs.declared.constraints.Exception.{Exception}
+use Rattle.timing_types.specs.declared.constraints.IoDelay.{IoDelay}
+use Rattle.timing_types.specs.declared.graphs.Graph.{Graph}
+use Rattle.source_types.specs.declared.pins.Node.{Node}
 use Rattle.sdc_model.specs.AliveArcs.{HasAliveArc}
 use Rattle.sdc_model.specs.AnalysedModes.{AnalysedMode, mode_of}
 use Rattle.sdc_model.specs.Analysis.{Analysis}

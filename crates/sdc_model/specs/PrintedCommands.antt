@@ -1,9 +1,9 @@
 -- Printed lines as commands of the grammar: what each word means, and that lines are spelled by their words.
 -- It reads: where each word is one of the grammar's as it is spelled, each line is one command, on its own line.
 use Rattle.std.specs.Prelude.{◌<◌, ℕ, List, [], ◌∷◌, ◌++◌, length, map, codes}
-use Rattle.sdc_model.specs.declared.commands.Command.{Command}
-use Rattle.sdc_model.specs.declared.commands.Word.{Word}
-use Rattle.sdc_model.specs.declared.commands.Part.TheVariants as part
+use Rattle.source_types.specs.declared.commands.Command.{Command}
+use Rattle.source_types.specs.declared.commands.Word.{Word}
+use Rattle.source_types.specs.declared.commands.Part.TheVariants as part
 use Rattle.sdc_model.specs.Bytes.{line_after}
 use Rattle.sdc_model.specs.Commands.{AreCommands, IsFirst, IsWord}
 use Rattle.sdc_model.specs.PrintedLine.{PrintedWord, bare, braced, bracketed, line_text, lines_text, spelled, words_text}

@@ -1,7 +1,7 @@
 -- Ranges of vectors (IEEE 1364-2005, vectors): the numbers of their bits from the left one to the right one, and how
 -- many they are. It reads: numbers rise or fall, both ends counted.
 use Rattle.std.specs.Prelude.{◌+◌, ◌-◌, ℕ, zero, suc, List, [], ◌∷◌, Option, Some, None, map, nat_le, if◌then◌else◌}
-use Rattle.sdc_model.specs.declared.netlists.Range.{Range}
+use Rattle.source_types.specs.declared.netlists.Range.{Range}
 
 -- as many numbers as said from one on, rising or falling
 abbrev pub rising : ℕ → ℕ → List ℕ

@@ -2,7 +2,7 @@
 -- A clock of period p with an edge at a has edges at a, a + p, a + 2 p and so on; times are whole femtoseconds.
 -- It reads: of all differences between a capture edge and a launch edge, setup is the least one above 0, hold the greatest one that is not.
 use Rattle.std.specs.Prelude.{◌≡◌, ℕ, ◌*◌, ◌^◌, ℤ, pos, ◌+ℤ◌, ◌-ℤ◌, ◌*ℤ◌, ◌≤ℤ◌, ◌<ℤ◌}
-use Rattle.sdc_model.specs.declared.edge_times.Relation.{Relation}
+use Rattle.timing_types.specs.declared.edge_times.Relation.{Relation}
 
 -- an edge of a clock as the tool takes them: a time from 0 to 2 * 10^12, a period from 1 to 10^12
 abbrev pub IsEdgeOf : ℤ → ℤ → Type 0

@@ -2,8 +2,8 @@
 -- It reads: a mode requires a path on a side where it times the same nodes under clock edges that are the path's, with
 -- its own limit. The requirement of a path is the strictest of these limits; a path that no mode times has none.
 use Rattle.std.specs.Prelude.{◌≡◌, ℕ, ℤ, List, Option, Some, None}
-use Rattle.sdc_model.specs.declared.paths.Path.{Path}
-use Rattle.sdc_model.specs.declared.pins.Side.{Side}
+use Rattle.timing_types.specs.declared.paths.Path.{Path}
+use Rattle.source_types.specs.declared.pins.Side.{Side}
 use Rattle.sdc_model.specs.AnalysedModes.{AnalysedMode, InSomeMode}
 use Rattle.sdc_model.specs.MappedClocks.{IsMappedEdge}
 use Rattle.sdc_model.specs.Timed.{IsTimed}

@@ -5,13 +5,13 @@
 -- stands on. A command is counted before its words are run.
 use Rattle.std.specs.Prelude.{◌≡◌, ◌<◌, ◌≤◌, ◌⊎◌, ◌+◌, ◌++◌, ℕ, zero, suc, Bool, true, false, List, [], ◌∷◌, Option, Some, None, Result, Ok, Err}
 use Rattle.sdc_base.specs.declared.memory.At.{At}
-use Rattle.sdc_model.specs.declared.commands.Command.{Command}
-use Rattle.sdc_model.specs.declared.kinds.Kind.{Kind}
-use Rattle.sdc_model.specs.declared.kinds.Kind.TheVariants.{Tcl}
-use Rattle.sdc_model.specs.declared.kinds.TclKind.{TclKind}
-use Rattle.sdc_model.specs.declared.kinds.TclKind.TheVariants.{TooDeep, TooManyCommands}
-use Rattle.sdc_model.specs.declared.objects.Value.{Value}
-use Rattle.sdc_model.specs.declared.objects.Value.TheVariants as value
+use Rattle.source_types.specs.declared.commands.Command.{Command}
+use Rattle.source_types.specs.declared.kinds.Kind.{Kind}
+use Rattle.source_types.specs.declared.kinds.Kind.TheVariants.{Tcl}
+use Rattle.source_types.specs.declared.kinds.TclKind.{TclKind}
+use Rattle.source_types.specs.declared.kinds.TclKind.TheVariants.{TooDeep, TooManyCommands}
+use Rattle.timing_types.specs.declared.objects.Value.{Value}
+use Rattle.timing_types.specs.declared.objects.Value.TheVariants as value
 use Rattle.sdc_model.specs.Bytes.{is_index}
 use Rattle.sdc_model.specs.Commands.{Place, StandsCommand}
 use Rattle.sdc_model.specs.ExpressionRun.{Turn}

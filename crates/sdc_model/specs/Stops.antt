@@ -4,21 +4,21 @@
 use Rattle.std.specs.Prelude.{◌≡◌, ◌<◌, ◌⊎◌, ℕ, Bool, List, [], map, Some, Ok, Err, slice_get}
 use Rattle.std.specs.List.{AllZip}
 use Rattle.sdc_base.specs.declared.memory.At.{At}
-use Rattle.sdc_model.specs.declared.analyses.Constants.{Constants}
-use Rattle.sdc_model.specs.declared.class_sets.Pool.{Pool}
-use Rattle.sdc_model.specs.declared.designs.Design.{Design}
-use Rattle.sdc_model.specs.declared.fault_kinds.ModeKind.{ModeKind}
-use Rattle.sdc_model.specs.declared.graphs.Graph.{Graph}
-use Rattle.sdc_model.specs.declared.merges.MergeStop.{MergeStop}
-use Rattle.sdc_model.specs.declared.merges.MergeStop.TheVariants as merge_stop
-use Rattle.sdc_model.specs.declared.modes.Mode.{Mode}
-use Rattle.sdc_model.specs.declared.pins.Pin.{Pin}
-use Rattle.sdc_model.specs.declared.reports.CheckStop.{CheckStop}
-use Rattle.sdc_model.specs.declared.reports.CheckStop.TheVariants as check_stop
-use Rattle.sdc_model.specs.declared.reports.ExplainStop.{ExplainStop}
-use Rattle.sdc_model.specs.declared.reports.ExplainStop.TheVariants as explain_stop
-use Rattle.sdc_model.specs.declared.views.Arrivals.{Arrivals}
-use Rattle.sdc_model.specs.declared.views.ClockMap.{ClockMap}
+use Rattle.timing_types.specs.declared.analyses.Constants.{Constants}
+use Rattle.timing_types.specs.declared.class_sets.Pool.{Pool}
+use Rattle.timing_types.specs.declared.designs.Design.{Design}
+use Rattle.source_types.specs.declared.fault_kinds.ModeKind.{ModeKind}
+use Rattle.timing_types.specs.declared.graphs.Graph.{Graph}
+use Rattle.timing_types.specs.declared.merges.MergeStop.{MergeStop}
+use Rattle.timing_types.specs.declared.merges.MergeStop.TheVariants as merge_stop
+use Rattle.timing_types.specs.declared.modes.Mode.{Mode}
+use Rattle.source_types.specs.declared.pins.Pin.{Pin}
+use Rattle.timing_types.specs.declared.reports.CheckStop.{CheckStop}
+use Rattle.timing_types.specs.declared.reports.CheckStop.TheVariants as check_stop
+use Rattle.timing_types.specs.declared.reports.ExplainStop.{ExplainStop}
+use Rattle.timing_types.specs.declared.reports.ExplainStop.TheVariants as explain_stop
+use Rattle.timing_types.specs.declared.views.Arrivals.{Arrivals}
+use Rattle.timing_types.specs.declared.views.ClockMap.{ClockMap}
 use Rattle.sdc_model.specs.AliveArcs.{AreAlive}
 use Rattle.sdc_model.specs.AnalysedModes.{AnalysedMode, AreAnalysed}
 use Rattle.sdc_model.specs.Analysis.{Analysis, Alive, IsAnalysis}

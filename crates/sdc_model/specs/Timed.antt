@@ -4,11 +4,11 @@
 -- clocks are not exclusive. It is timed where it is a candidate and has a limit, which it has but under a false path.
 use Rattle.std.specs.Prelude.{◌≡◌, ◌⊎◌, ℕ, ℤ, List, [], ◌∷◌, Option, Some}
 use Rattle.std.specs.List.{Contains}
-use Rattle.sdc_model.specs.declared.constraints.IoDelay.{IoDelay}
-use Rattle.sdc_model.specs.declared.paths.Path.{Path}
-use Rattle.sdc_model.specs.declared.pins.ClockEdge.{ClockEdge}
-use Rattle.sdc_model.specs.declared.pins.Node.{Node}
-use Rattle.sdc_model.specs.declared.pins.Side.{Side}
+use Rattle.timing_types.specs.declared.constraints.IoDelay.{IoDelay}
+use Rattle.timing_types.specs.declared.paths.Path.{Path}
+use Rattle.source_types.specs.declared.pins.ClockEdge.{ClockEdge}
+use Rattle.source_types.specs.declared.pins.Node.{Node}
+use Rattle.source_types.specs.declared.pins.Side.{Side}
 use Rattle.sdc_model.specs.Analysis.{Analysis, Alive}
 use Rattle.sdc_model.specs.Arrival.{IsAmongArrivals, Launches, GoesOn}
 use Rattle.sdc_model.specs.Exclusive.{pair_of}

@@ -2,9 +2,9 @@
 -- A turn relates a state before, a value or a fault, and the state after. It reads: a turn and then the next one, which
 -- is not reached where the first one has a fault.
 use Rattle.std.specs.Prelude.{◌≡◌, Bool, true, false, Result, Ok, Err}
-use Rattle.sdc_model.specs.declared.kinds.Kind.{Kind}
-use Rattle.sdc_model.specs.declared.kinds.Kind.TheVariants.{Tcl}
-use Rattle.sdc_model.specs.declared.kinds.TclKind.{TclKind}
+use Rattle.source_types.specs.declared.kinds.Kind.{Kind}
+use Rattle.source_types.specs.declared.kinds.Kind.TheVariants.{Tcl}
+use Rattle.source_types.specs.declared.kinds.TclKind.{TclKind}
 use Rattle.sdc_model.specs.ExpressionRun.{Turn}
 
 -- this is given, and the state stays

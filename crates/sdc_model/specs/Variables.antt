@@ -1,9 +1,9 @@
 -- The variables of a script (Tcl), in the order in which they were first set. A variable has a text, or a list of
 -- objects, which is this project's own.
 use Rattle.std.specs.Prelude.{ℕ, List, [], ◌∷◌, Option, Some, None, Result, Ok, Err, if◌then◌else◌}
-use Rattle.sdc_model.specs.declared.kinds.TclKind.{TclKind}
-use Rattle.sdc_model.specs.declared.kinds.TclKind.TheVariants.{UnknownVariable}
-use Rattle.sdc_model.specs.declared.objects.Value.{Value}
+use Rattle.source_types.specs.declared.kinds.TclKind.{TclKind}
+use Rattle.source_types.specs.declared.kinds.TclKind.TheVariants.{UnknownVariable}
+use Rattle.timing_types.specs.declared.objects.Value.{Value}
 use Rattle.sdc_model.specs.Words.{same_text}
 
 pub record Variable : Type 0 where

@@ -5,11 +5,11 @@ use Rattle.std.specs.Prelude.{◌≡◌, ◌⊎◌, ◌||◌, ◌&&◌, ◌==◌
 use Rattle.std.specs.List.{filter, flat_map, list_any}
 use Rattle.std.specs.Str.{IsUtf8}
 use Rattle.sdc_base.specs.declared.memory.At.{At}
-use Rattle.sdc_model.specs.declared.fault_kinds.VerilogKind.{VerilogKind}
-use Rattle.sdc_model.specs.declared.fault_kinds.VerilogKind.TheVariants.{DoubleName, InoutPort, NotText, UnknownNet, VerilogForm, WidthMismatch}
-use Rattle.sdc_model.specs.declared.netlists.Module.{Module}
-use Rattle.sdc_model.specs.declared.netlists.Range.{Range}
-use Rattle.sdc_model.specs.declared.verilog_tokens.VerilogSymbol.TheVariants.{Source}
+use Rattle.source_types.specs.declared.fault_kinds.VerilogKind.{VerilogKind}
+use Rattle.source_types.specs.declared.fault_kinds.VerilogKind.TheVariants.{DoubleName, InoutPort, NotText, UnknownNet, VerilogForm, WidthMismatch}
+use Rattle.source_types.specs.declared.netlists.Module.{Module}
+use Rattle.source_types.specs.declared.netlists.Range.{Range}
+use Rattle.source_types.specs.declared.verilog_tokens.VerilogSymbol.TheVariants.{Source}
 use Rattle.sdc_model.specs.LastLine.{broken_text_line, last_line_of}
 use Rattle.sdc_model.specs.Ranges.{width}
 use Rattle.sdc_model.specs.VerilogGrammar.{verilog}

@@ -2,10 +2,10 @@
 -- concatenations and instances, as far as it is read here). It reads: a symbol that begins with a token is that token with
 -- these symbols behind it.
 use Rattle.std.specs.Prelude.{List, [], ◌∷◌, Option, Some, None}
-use Rattle.sdc_model.specs.declared.verilog_tokens.VerilogSymbol.{VerilogSymbol}
-use Rattle.sdc_model.specs.declared.verilog_tokens.VerilogSymbol.TheVariants.{Token, Assignments, Left, LeftParts, Select, SelectEnd, Index, Bits, Parts, Instances, Connections, Connected, OrderedConnections, NamedConnections}
-use Rattle.sdc_model.specs.declared.verilog_tokens.VerilogToken.{VerilogToken}
-use Rattle.sdc_model.specs.declared.verilog_tokens.VerilogToken.TheVariants as kind
+use Rattle.source_types.specs.declared.verilog_tokens.VerilogSymbol.{VerilogSymbol}
+use Rattle.source_types.specs.declared.verilog_tokens.VerilogSymbol.TheVariants.{Token, Assignments, Left, LeftParts, Select, SelectEnd, Index, Bits, Parts, Instances, Connections, Connected, OrderedConnections, NamedConnections}
+use Rattle.source_types.specs.declared.verilog_tokens.VerilogToken.{VerilogToken}
+use Rattle.source_types.specs.declared.verilog_tokens.VerilogToken.TheVariants as kind
 
 -- what stands behind a token
 abbrev pub Behind : Type 0

@@ -3,8 +3,8 @@
 -- there, by what is no source where the leftmost digit is `x` or `z`, and else by 0. A bit that is `x` or `z` has no value.
 use Rattle.std.specs.Prelude.{◌==◌, ◌||◌, ◌&&◌, ◌+◌, ◌-◌, ◌*◌, ◌/◌, ◌%◌, ◌++◌, ℕ, zero, suc, Bool, false, not, List, [], ◌∷◌, Option, Some, None, length, drop, nat_le, if◌then◌else◌}
 use Rattle.std.specs.List.{flat_map, list_all, repeat}
-use Rattle.sdc_model.specs.declared.verilog_tokens.VerilogToken.{VerilogToken}
-use Rattle.sdc_model.specs.declared.verilog_tokens.VerilogToken.TheVariants as kind
+use Rattle.source_types.specs.declared.verilog_tokens.VerilogToken.{VerilogToken}
+use Rattle.source_types.specs.declared.verilog_tokens.VerilogToken.TheVariants as kind
 use Rattle.sdc_model.specs.Bytes.{is_digit, is_letter}
 
 -- ---- numbers

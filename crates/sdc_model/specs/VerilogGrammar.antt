@@ -2,10 +2,10 @@
 -- assignments, as far as it is read here), as a table. It reads: a symbol that begins with a token is that token with these
 -- symbols behind it; a source, a select and what is connected may be nothing.
 use Rattle.std.specs.Prelude.{Bool, true, false, [], ◌∷◌, Some, None, if◌then◌else◌}
-use Rattle.sdc_model.specs.declared.verilog_tokens.VerilogSymbol.{VerilogSymbol}
-use Rattle.sdc_model.specs.declared.verilog_tokens.VerilogSymbol.TheVariants.{Token, Source, Header, Ports, ListedPorts, DeclaredPort, NamedPort, DeclaredPorts, NextPort, Statements, PortStatements, Declaration, PortDeclaration, Names, Bound, Assignments, Left, LeftParts, Select, SelectEnd, Index, Bits, Parts, Instances, Connections, Connected, OrderedConnections, NamedConnections}
-use Rattle.sdc_model.specs.declared.verilog_tokens.VerilogToken.{VerilogToken}
-use Rattle.sdc_model.specs.declared.verilog_tokens.VerilogToken.TheVariants as kind
+use Rattle.source_types.specs.declared.verilog_tokens.VerilogSymbol.{VerilogSymbol}
+use Rattle.source_types.specs.declared.verilog_tokens.VerilogSymbol.TheVariants.{Token, Source, Header, Ports, ListedPorts, DeclaredPort, NamedPort, DeclaredPorts, NextPort, Statements, PortStatements, Declaration, PortDeclaration, Names, Bound, Assignments, Left, LeftParts, Select, SelectEnd, Index, Bits, Parts, Instances, Connections, Connected, OrderedConnections, NamedConnections}
+use Rattle.source_types.specs.declared.verilog_tokens.VerilogToken.{VerilogToken}
+use Rattle.source_types.specs.declared.verilog_tokens.VerilogToken.TheVariants as kind
 use Rattle.sdc_model.specs.VerilogBits.{Behind, assignments, bits, bound, connections, index, instances, left, left_parts, named_connections, ordered_connections, parts, select, select_end}
 use Rattle.sdc_model.specs.VerilogKinds.{same_kind}
 use Rattle.token_grammar.specs.Texts.{Table}

@@ -4,17 +4,17 @@
 use Rattle.std.specs.Prelude.{◌++◌, ◌&&◌, ℕ, Bool, true, false, List, [], ◌∷◌, Option, Some, None, map, if◌then◌else◌}
 use Rattle.std.specs.List.{filter_map, find, flat_map}
 use Rattle.std.specs.Option.{option_or}
-use Rattle.sdc_model.specs.declared.library_cells.Direction.{Direction}
-use Rattle.sdc_model.specs.declared.netlists.Assign.{Assign}
-use Rattle.sdc_model.specs.declared.netlists.Bit.{Bit}
-use Rattle.sdc_model.specs.declared.netlists.Bit.TheVariants as bits
-use Rattle.sdc_model.specs.declared.netlists.Instance.{Instance}
-use Rattle.sdc_model.specs.declared.netlists.Links.{Links}
-use Rattle.sdc_model.specs.declared.netlists.Links.TheVariants as links
-use Rattle.sdc_model.specs.declared.netlists.Module.{Module}
-use Rattle.sdc_model.specs.declared.netlists.Port.{Port}
-use Rattle.sdc_model.specs.declared.netlists.Range.{Range}
-use Rattle.sdc_model.specs.declared.netlists.Wire.{Wire}
+use Rattle.source_types.specs.declared.library_cells.Direction.{Direction}
+use Rattle.source_types.specs.declared.netlists.Assign.{Assign}
+use Rattle.source_types.specs.declared.netlists.Bit.{Bit}
+use Rattle.source_types.specs.declared.netlists.Bit.TheVariants as bits
+use Rattle.source_types.specs.declared.netlists.Instance.{Instance}
+use Rattle.source_types.specs.declared.netlists.Links.{Links}
+use Rattle.source_types.specs.declared.netlists.Links.TheVariants as links
+use Rattle.source_types.specs.declared.netlists.Module.{Module}
+use Rattle.source_types.specs.declared.netlists.Port.{Port}
+use Rattle.source_types.specs.declared.netlists.Range.{Range}
+use Rattle.source_types.specs.declared.netlists.Wire.{Wire}
 use Rattle.sdc_model.specs.Ranges.{from_to, indices}
 use Rattle.sdc_model.specs.VerilogKinds.{is_among}
 use Rattle.sdc_model.specs.VerilogStatements.{Connections, Placed, Sides, Statement, Written, assigns, declarations, declares, named, ordered, places}

@@ -2,8 +2,8 @@
 -- what each declares, its instances and its assignments. It speaks of texts of the grammar.
 use Rattle.std.specs.Prelude.{◌++◌, ◌-◌, List, [], ◌∷◌, drop, length, map, take, if◌then◌else◌}
 use Rattle.std.specs.List.{after_first, before_first, filter, flat_map, slice_split}
-use Rattle.sdc_model.specs.declared.verilog_tokens.VerilogToken.{VerilogToken}
-use Rattle.sdc_model.specs.declared.verilog_tokens.VerilogToken.TheVariants as kind
+use Rattle.source_types.specs.declared.verilog_tokens.VerilogToken.{VerilogToken}
+use Rattle.source_types.specs.declared.verilog_tokens.VerilogToken.TheVariants as kind
 use Rattle.sdc_model.specs.VerilogSyntax.{Declared, Piece, header_declares, header_lists, is, net_pieces, parts_of, pieces_of, statement_declares}
 use Rattle.sdc_model.specs.VerilogTokens.{Token}
 

@@ -2,8 +2,8 @@
 -- them, and every other is a token that no text of it has.
 use Rattle.std.specs.Prelude.{ℕ, List, [], ◌∷◌, codes, if◌then◌else◌}
 use Rattle.std.specs.List.{list_any}
-use Rattle.sdc_model.specs.declared.verilog_tokens.VerilogToken.{VerilogToken}
-use Rattle.sdc_model.specs.declared.verilog_tokens.VerilogToken.TheVariants as kind
+use Rattle.source_types.specs.declared.verilog_tokens.VerilogToken.{VerilogToken}
+use Rattle.source_types.specs.declared.verilog_tokens.VerilogToken.TheVariants as kind
 use Rattle.sdc_model.specs.Words.{same_text}
 
 -- the keywords that the grammar here has not

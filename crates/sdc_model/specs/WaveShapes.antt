@@ -4,11 +4,11 @@
 -- moved down by whole periods until the rise is below the period.
 use Rattle.std.specs.Prelude.{◌+◌, ◌-◌, ◌*◌, ◌/◌, ◌%◌, ◌==◌, ◌&&◌, ℕ, zero, suc, pos, unsigned_abs, Bool, true, false, Result, Ok, Err, nat_lt, nat_le, if◌then◌else◌}
 use Rattle.std.specs.Int.{is_power_of_two}
-use Rattle.sdc_model.specs.declared.clocks.Shape.{Shape}
-use Rattle.sdc_model.specs.declared.clocks.Shape.TheVariants.{Divide, Multiply, Edges}
-use Rattle.sdc_model.specs.declared.clocks.Wave.{Wave}
-use Rattle.sdc_model.specs.declared.fault_kinds.ModeKind.{ModeKind}
-use Rattle.sdc_model.specs.declared.fault_kinds.ModeKind.TheVariants.{NotExact, PeriodRange}
+use Rattle.timing_types.specs.declared.clocks.Shape.{Shape}
+use Rattle.timing_types.specs.declared.clocks.Shape.TheVariants.{Divide, Multiply, Edges}
+use Rattle.timing_types.specs.declared.clocks.Wave.{Wave}
+use Rattle.source_types.specs.declared.fault_kinds.ModeKind.{ModeKind}
+use Rattle.source_types.specs.declared.fault_kinds.ModeKind.TheVariants.{NotExact, PeriodRange}
 use Rattle.sdc_model.specs.Waveform.{longest_time, moved_down}
 
 -- a period, a rise and a fall, which may be past the period

@@ -5,7 +5,7 @@ use Rattle.std.specs.Option.{option_and_then}
 use Rattle.sdc_base.specs.Number.{Number, read_number}
 use Rattle.sdc_base.specs.Time.{time_of}
 use Rattle.sdc_base.specs.declared.fixed.NumberError.{NumberError}
-use Rattle.sdc_model.specs.declared.clocks.Wave.{Wave}
+use Rattle.timing_types.specs.declared.clocks.Wave.{Wave}
 use Rattle.sdc_model.specs.ListReading.{items_of}
 
 -- the longest time of a clock, 10^12 fs

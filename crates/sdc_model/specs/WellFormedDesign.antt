@@ -5,21 +5,21 @@
 use Rattle.std.specs.Prelude.{◌≡◌, ◌+◌, ◌<◌, ◌≤◌, ◌==◌, ◌&&◌, ◌⊎◌, ℕ, Bool, true, false, not, List, [], ◌∷◌, ◌++◌, length, map, codes, Option, Some, None, slice_get, nat_lt, if◌then◌else◌}
 use Rattle.std.specs.List.{All, list_all, list_any}
 use Rattle.sdc_base.specs.Time.{IsUnit}
-use Rattle.sdc_model.specs.declared.designs.CellInfo.{CellInfo}
-use Rattle.sdc_model.specs.declared.designs.Design.{Design}
-use Rattle.sdc_model.specs.declared.designs.NetInfo.{NetInfo}
-use Rattle.sdc_model.specs.declared.designs.PinInfo.{PinInfo}
-use Rattle.sdc_model.specs.declared.designs.Role.{Role}
-use Rattle.sdc_model.specs.declared.designs.Role.TheVariants.{InPort, OutPort, CellIn, CellOut, CellOther}
-use Rattle.sdc_model.specs.declared.designs.Source.{Source}
-use Rattle.sdc_model.specs.declared.designs.Source.TheVariants as source
-use Rattle.sdc_model.specs.declared.functions.Expr.{Expr}
-use Rattle.sdc_model.specs.declared.library_cells.Direction.{Direction}
-use Rattle.sdc_model.specs.declared.library_cells.Direction.TheVariants as direction
-use Rattle.sdc_model.specs.declared.library_cells.LibArc.{LibArc}
-use Rattle.sdc_model.specs.declared.library_cells.LibCell.{LibCell}
-use Rattle.sdc_model.specs.declared.library_cells.LibCheck.{LibCheck}
-use Rattle.sdc_model.specs.declared.library_cells.LibPin.{LibPin}
+use Rattle.timing_types.specs.declared.designs.CellInfo.{CellInfo}
+use Rattle.timing_types.specs.declared.designs.Design.{Design}
+use Rattle.timing_types.specs.declared.designs.NetInfo.{NetInfo}
+use Rattle.timing_types.specs.declared.designs.PinInfo.{PinInfo}
+use Rattle.timing_types.specs.declared.designs.Role.{Role}
+use Rattle.timing_types.specs.declared.designs.Role.TheVariants.{InPort, OutPort, CellIn, CellOut, CellOther}
+use Rattle.timing_types.specs.declared.designs.Source.{Source}
+use Rattle.timing_types.specs.declared.designs.Source.TheVariants as source
+use Rattle.source_types.specs.declared.functions.Expr.{Expr}
+use Rattle.source_types.specs.declared.library_cells.Direction.{Direction}
+use Rattle.source_types.specs.declared.library_cells.Direction.TheVariants as direction
+use Rattle.source_types.specs.declared.library_cells.LibArc.{LibArc}
+use Rattle.source_types.specs.declared.library_cells.LibCell.{LibCell}
+use Rattle.source_types.specs.declared.library_cells.LibCheck.{LibCheck}
+use Rattle.source_types.specs.declared.library_cells.LibPin.{LibPin}
 use Rattle.sdc_model.specs.FunctionMeaning.{pins_of}
 use Rattle.sdc_model.specs.Nodes.{IsInputPort, cell_pin, kind_of, role_of}
 

@@ -3,22 +3,22 @@
 -- pin; a view's clocks, waves and merged clocks are those of its mode.
 use Rattle.std.specs.Prelude.{◌≡◌, ◌<◌, ◌⊎◌, ℕ, Bool, List, length, Option, Some, Ok}
 use Rattle.std.specs.List.{All, Contains}
-use Rattle.sdc_model.specs.declared.class_sets.Launched.{Launched}
-use Rattle.sdc_model.specs.declared.class_sets.Pool.{Pool}
-use Rattle.sdc_model.specs.declared.clocks.Wave.{Wave}
-use Rattle.sdc_model.specs.declared.constraints.Exception.{Exception}
-use Rattle.sdc_model.specs.declared.constraints.Points.{Points}
-use Rattle.sdc_model.specs.declared.constraints.Points.TheVariants as points
-use Rattle.sdc_model.specs.declared.constraints.Through.{Through}
-use Rattle.sdc_model.specs.declared.designs.Design.{Design}
-use Rattle.sdc_model.specs.declared.graphs.Arc.{Arc}
-use Rattle.sdc_model.specs.declared.graphs.ArcKind.TheVariants.{Launch}
-use Rattle.sdc_model.specs.declared.graphs.Check.{Check}
-use Rattle.sdc_model.specs.declared.graphs.Graph.{Graph}
-use Rattle.sdc_model.specs.declared.pins.ClockEdge.{ClockEdge}
-use Rattle.sdc_model.specs.declared.pins.Node.{Node}
-use Rattle.sdc_model.specs.declared.pins.Pin.{Pin}
-use Rattle.sdc_model.specs.declared.views.View.{View}
+use Rattle.timing_types.specs.declared.class_sets.Launched.{Launched}
+use Rattle.timing_types.specs.declared.class_sets.Pool.{Pool}
+use Rattle.timing_types.specs.declared.clocks.Wave.{Wave}
+use Rattle.timing_types.specs.declared.constraints.Exception.{Exception}
+use Rattle.timing_types.specs.declared.constraints.Points.{Points}
+use Rattle.timing_types.specs.declared.constraints.Points.TheVariants as points
+use Rattle.timing_types.specs.declared.constraints.Through.{Through}
+use Rattle.timing_types.specs.declared.designs.Design.{Design}
+use Rattle.timing_types.specs.declared.graphs.Arc.{Arc}
+use Rattle.timing_types.specs.declared.graphs.ArcKind.TheVariants.{Launch}
+use Rattle.timing_types.specs.declared.graphs.Check.{Check}
+use Rattle.timing_types.specs.declared.graphs.Graph.{Graph}
+use Rattle.source_types.specs.declared.pins.ClockEdge.{ClockEdge}
+use Rattle.source_types.specs.declared.pins.Node.{Node}
+use Rattle.source_types.specs.declared.pins.Pin.{Pin}
+use Rattle.timing_types.specs.declared.views.View.{View}
 use Rattle.sdc_model.specs.ClockIdentity.{edges_at}
 use Rattle.sdc_model.specs.Exclusive.{IsApart}
 use Rattle.sdc_model.specs.GeneratedWaves.{waves_of}

@@ -3,17 +3,17 @@
 -- ports; bits name nets that are there; and the sides of an assignment have one width.
 use Rattle.std.specs.Prelude.{◌≡◌, ◌++◌, ◌≤◌, ◌⊎◌, ℕ, List, length, map, Option, Some, None}
 use Rattle.std.specs.List.{All, AllZip, Contains, flat_map}
-use Rattle.sdc_model.specs.declared.library_cells.Direction.TheVariants as direction
-use Rattle.sdc_model.specs.declared.netlists.Assign.{Assign}
-use Rattle.sdc_model.specs.declared.netlists.Bit.{Bit}
-use Rattle.sdc_model.specs.declared.netlists.Bit.TheVariants as bits
-use Rattle.sdc_model.specs.declared.netlists.Link.{Link}
-use Rattle.sdc_model.specs.declared.netlists.Links.{Links}
-use Rattle.sdc_model.specs.declared.netlists.Links.TheVariants as links
-use Rattle.sdc_model.specs.declared.netlists.Module.{Module}
-use Rattle.sdc_model.specs.declared.netlists.Port.{Port}
-use Rattle.sdc_model.specs.declared.netlists.Range.{Range}
-use Rattle.sdc_model.specs.declared.netlists.Wire.{Wire}
+use Rattle.source_types.specs.declared.library_cells.Direction.TheVariants as direction
+use Rattle.source_types.specs.declared.netlists.Assign.{Assign}
+use Rattle.source_types.specs.declared.netlists.Bit.{Bit}
+use Rattle.source_types.specs.declared.netlists.Bit.TheVariants as bits
+use Rattle.source_types.specs.declared.netlists.Link.{Link}
+use Rattle.source_types.specs.declared.netlists.Links.{Links}
+use Rattle.source_types.specs.declared.netlists.Links.TheVariants as links
+use Rattle.source_types.specs.declared.netlists.Module.{Module}
+use Rattle.source_types.specs.declared.netlists.Port.{Port}
+use Rattle.source_types.specs.declared.netlists.Range.{Range}
+use Rattle.source_types.specs.declared.netlists.Wire.{Wire}
 use Rattle.sdc_model.specs.WellFormedDesign.{AreDistinct}
 
 -- a net that is a port has its name and its range, and is tied to nothing

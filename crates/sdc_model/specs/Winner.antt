@@ -3,15 +3,15 @@
 -- the one with the strictest relation; then the first in the list. One that stands before every other one holds.
 -- Which exceptions match is given as a predicate over their places.
 use Rattle.std.specs.Prelude.{◌≡◌, ◌≢◌, ◌+◌, ◌*◌, ◌<◌, ◌⊎◌, ℕ, ℤ, pos, neg_ℤ, ◌*ℤ◌, ◌-ℤ◌, ◌<ℤ◌, Bool, List, [], ◌∷◌, Option, Some, None, slice_get, if◌then◌else◌}
-use Rattle.sdc_model.specs.declared.constraints.ExCommand.{ExCommand}
-use Rattle.sdc_model.specs.declared.constraints.ExCommand.TheVariants.{FalsePath, Delay, Multicycle}
-use Rattle.sdc_model.specs.declared.constraints.Exception.{Exception}
-use Rattle.sdc_model.specs.declared.constraints.Points.{Points}
-use Rattle.sdc_model.specs.declared.constraints.Points.TheVariants as points
-use Rattle.sdc_model.specs.declared.constraints.Through.{Through}
-use Rattle.sdc_model.specs.declared.paths.Periods.{Periods}
-use Rattle.sdc_model.specs.declared.pins.Side.{Side}
-use Rattle.sdc_model.specs.declared.pins.Side.TheVariants.{Setup, Hold}
+use Rattle.timing_types.specs.declared.constraints.ExCommand.{ExCommand}
+use Rattle.timing_types.specs.declared.constraints.ExCommand.TheVariants.{FalsePath, Delay, Multicycle}
+use Rattle.timing_types.specs.declared.constraints.Exception.{Exception}
+use Rattle.timing_types.specs.declared.constraints.Points.{Points}
+use Rattle.timing_types.specs.declared.constraints.Points.TheVariants as points
+use Rattle.timing_types.specs.declared.constraints.Through.{Through}
+use Rattle.timing_types.specs.declared.paths.Periods.{Periods}
+use Rattle.source_types.specs.declared.pins.Side.{Side}
+use Rattle.source_types.specs.declared.pins.Side.TheVariants.{Setup, Hold}
 
 -- ---- strict
 

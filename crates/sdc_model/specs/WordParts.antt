@@ -1,8 +1,8 @@
 -- The parts of a word from its pieces (Tcl): neighbouring texts are one part, and a word of no piece is the empty text.
 use Rattle.std.specs.Prelude.{ℕ, List, [], ◌∷◌, ◌++◌}
-use Rattle.sdc_model.specs.declared.commands.Part.{Part}
-use Rattle.sdc_model.specs.declared.commands.Part.TheVariants.{Text}
-use Rattle.sdc_model.specs.declared.commands.Word.{Word}
+use Rattle.source_types.specs.declared.commands.Part.{Part}
+use Rattle.source_types.specs.declared.commands.Part.TheVariants.{Text}
+use Rattle.source_types.specs.declared.commands.Word.{Word}
 use Rattle.sdc_model.specs.Pieces.{Piece, text, other}
 
 -- the parts that are whole, and the text behind them so far

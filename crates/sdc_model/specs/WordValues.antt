@@ -3,11 +3,11 @@
 -- It reads: the words from left to right, and in each its parts; the first fault ends it. Scripts are run at the level
 -- within, by `Opens`: the number of parentheses of an expression that stand around, and what is opened.
 use Rattle.std.specs.Prelude.{◌++◌, ℕ, List, [], ◌∷◌, Ok}
-use Rattle.sdc_model.specs.declared.commands.Part.{Part}
-use Rattle.sdc_model.specs.declared.commands.Part.TheVariants as part
-use Rattle.sdc_model.specs.declared.commands.Word.{Word}
-use Rattle.sdc_model.specs.declared.objects.Value.{Value}
-use Rattle.sdc_model.specs.declared.objects.Value.TheVariants as value
+use Rattle.source_types.specs.declared.commands.Part.{Part}
+use Rattle.source_types.specs.declared.commands.Part.TheVariants as part
+use Rattle.source_types.specs.declared.commands.Word.{Word}
+use Rattle.timing_types.specs.declared.objects.Value.{Value}
+use Rattle.timing_types.specs.declared.objects.Value.TheVariants as value
 use Rattle.sdc_model.specs.ExpressionRun.{Turn}
 use Rattle.sdc_model.specs.HostCalls.{AsText, Host, World}
 use Rattle.sdc_model.specs.Turns.{Answers, Then, tcl_outcome}

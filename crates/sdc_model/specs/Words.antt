@@ -2,8 +2,8 @@
 -- It reads: a word of one part that is a text has this text, and any other word has none.
 use Rattle.std.specs.Prelude.{ℕ, Bool, false, List, [], ◌∷◌, Option, Some, None, nat_eq}
 use Rattle.std.specs.Cmp.Lexicographic.{pointwise}
-use Rattle.sdc_model.specs.declared.commands.Part.{Part}
-use Rattle.sdc_model.specs.declared.commands.Part.TheVariants as part
+use Rattle.source_types.specs.declared.commands.Part.{Part}
+use Rattle.source_types.specs.declared.commands.Part.TheVariants as part
 
 -- two texts are the same
 abbrev pub same_text : List ℕ → List ℕ → Bool

@@ -3,9 +3,9 @@ use Rattle.std.proofs.Common.{◌≡◌, ◌<◌, ◌-◌, ◌||◌, ℕ, Bool, 
 use Rattle.std.specs.List.{list_all}
 use Rattle.std.proofs.lemmas.Bool.{and_parts}
 use Rattle.std.proofs.lemmas.List.{append-nil, length-append, take_at}
-use Rattle.sdc_model.specs.declared.commands.Command.{Command}
-use Rattle.sdc_model.specs.declared.commands.Word.{Word}
-use Rattle.sdc_model.specs.declared.kinds.TclKind.{TclKind}
+use Rattle.source_types.specs.declared.commands.Command.{Command}
+use Rattle.source_types.specs.declared.commands.Word.{Word}
+use Rattle.source_types.specs.declared.kinds.TclKind.{TclKind}
 use Rattle.sdc_model.specs.Bytes.{before, is_end, is_space, line_after}
 use Rattle.sdc_model.specs.Commands.{AreCommands, AreWords, CommandFront, IsCommand, IsFirst, IsWord, IsWordOf, Place, StandsWord, WordFront, ended_command, may_follow, opening}
 use Rattle.sdc_model.specs.Continued.{behind_gap, from_command, parting}

@@ -1,10 +1,10 @@
 -- A printed file, read again, says the mode that was printed.
 use Rattle.std.proofs.Common.{◌≡◌, ℕ, ℤ, List, [], ◌++◌, length, map, Ok, refl, sym, ◌∙◌, ap, subst}
 use Rattle.std.proofs.lemmas.List.{length-map}
-use Rattle.sdc_model.specs.declared.clocks.Clock.{Clock}
-use Rattle.sdc_model.specs.declared.clocks.Pair.{Pair}
-use Rattle.sdc_model.specs.declared.designs.Design.{Design}
-use Rattle.sdc_model.specs.declared.modes.Mode.{Mode}
+use Rattle.timing_types.specs.declared.clocks.Clock.{Clock}
+use Rattle.timing_types.specs.declared.clocks.Pair.{Pair}
+use Rattle.timing_types.specs.declared.designs.Design.{Design}
+use Rattle.timing_types.specs.declared.modes.Mode.{Mode}
 use Rattle.sdc_model.specs.ClockFile.{SaysMode, SoFar, clock_mode}
 use Rattle.sdc_model.specs.ClockGroups.{Groups, exclusive_pairs}
 use Rattle.sdc_model.specs.PlainViews.{without_line}

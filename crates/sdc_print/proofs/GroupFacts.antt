@@ -2,8 +2,8 @@
 use Rattle.std.proofs.Common.{◌≡◌, ◌<◌, ◌≤◌, ℕ, List, [], ◌∷◌, ◌++◌, zero, suc, length, drop, take, get_or, refl, sym, ap, ◌∙◌, slice_get, arith, min}
 use Rattle.std.proofs.lemmas.List.{append-nil}
 use Rattle.std.proofs.Math.Seq.{drop-cons}
-use Rattle.sdc_model.specs.declared.clocks.Clock.{Clock}
-use Rattle.sdc_model.specs.declared.clocks.Pair.{Pair}
+use Rattle.timing_types.specs.declared.clocks.Clock.{Clock}
+use Rattle.timing_types.specs.declared.clocks.Pair.{Pair}
 use Rattle.sdc_model.specs.PrintedLine.{spaced, line_text, lines_text}
 use Rattle.sdc_model.specs.PrintedFile.{names_at, name_of, exclusive_to, group_line, group_lines, lines_of_group}
 use Rattle.sdc_print.specs.Runs.{run_length, seconds, group_text}

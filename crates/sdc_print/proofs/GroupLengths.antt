@@ -4,10 +4,10 @@ use Rattle.std.specs.Prelude.{◌==◌}
 use Rattle.std.specs.List.{filter}
 use Rattle.std.proofs.lemmas.List.{append-nil}
 use Rattle.std.proofs.Math.Seq.{drop-cons}
-use Rattle.sdc_model.specs.declared.clocks.Clock.{Clock}
-use Rattle.sdc_model.specs.declared.clocks.Pair.{Pair}
-use Rattle.sdc_model.specs.declared.designs.Design.{Design}
-use Rattle.sdc_model.specs.declared.modes.Mode.{Mode}
+use Rattle.timing_types.specs.declared.clocks.Clock.{Clock}
+use Rattle.timing_types.specs.declared.clocks.Pair.{Pair}
+use Rattle.timing_types.specs.declared.designs.Design.{Design}
+use Rattle.timing_types.specs.declared.modes.Mode.{Mode}
 use Rattle.sdc_model.specs.PrintedLine.{lines_text}
 use Rattle.sdc_model.specs.PrintedFile.{clock_lines, exclusive_to, group_lines, header_lines, lines_of_group, names_at, printed_file}
 use Rattle.sdc_print.specs.Runs.{group_text, groups_text}

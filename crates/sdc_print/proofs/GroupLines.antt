@@ -4,9 +4,9 @@ use Rattle.std.proofs.lemmas.Bool.{and_parts, or_parts}
 use Rattle.std.proofs.lemmas.Bool.Decides.{nat_tests}
 use Rattle.std.specs.List.{list_all}
 use Rattle.std.specs.Option.{option_and_then}
-use Rattle.sdc_model.specs.declared.clocks.Clock.{Clock}
-use Rattle.sdc_model.specs.declared.clocks.Pair.{Pair}
-use Rattle.sdc_model.specs.declared.commands.Part.TheVariants as part
+use Rattle.timing_types.specs.declared.clocks.Clock.{Clock}
+use Rattle.timing_types.specs.declared.clocks.Pair.{Pair}
+use Rattle.source_types.specs.declared.commands.Part.TheVariants as part
 use Rattle.sdc_model.specs.ClockFile.{SoFar, does, grouped, is_taken, with_groups}
 use Rattle.sdc_model.specs.ClockGroups.{Groups, group_of, place_from, places_of}
 use Rattle.sdc_model.specs.PrintedCommands.{word_of}

@@ -1,8 +1,8 @@
 -- The pairs that the groups of a mode's lines make exclusive are the mode's pairs, in order.
 use Rattle.std.proofs.Common.{◌≡◌, ◌<◌, ◌≤◌, ◌+◌, ◌&&◌, ◌||◌, ℕ, zero, suc, Bool, true, false, List, [], ◌∷◌, ◌++◌, length, map, drop, nat_eq, refl, sym, ◌∙◌, ap, subst, inl, inr, arith}
 use Rattle.std.proofs.lemmas.Bool.{cases_eq, eq-eqb, ne_eqb}
-use Rattle.sdc_model.specs.declared.clocks.Clock.{Clock}
-use Rattle.sdc_model.specs.declared.clocks.Pair.{Pair}
+use Rattle.timing_types.specs.declared.clocks.Clock.{Clock}
+use Rattle.timing_types.specs.declared.clocks.Pair.{Pair}
 use Rattle.sdc_model.specs.ClockGroups.{Groups, exclusive_pairs, is_among, is_parted, pairs_from, pairs_with}
 use Rattle.sdc_model.specs.PrintedFile.{ArePairs, IsBehind, exclusive_to}
 use Rattle.sdc_print.specs.Runs.{run_length}

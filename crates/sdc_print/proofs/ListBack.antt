@@ -4,7 +4,7 @@ use Rattle.std.proofs.lemmas.Bool.{and_parts}
 use Rattle.std.proofs.lemmas.Bool.Decides.{nat_tests}
 use Rattle.std.specs.List.{list_all}
 use Rattle.std.specs.Result.{result_ok}
-use Rattle.sdc_model.specs.declared.kinds.TclKind.{TclKind}
+use Rattle.source_types.specs.declared.kinds.TclKind.{TclKind}
 use Rattle.sdc_model.specs.Bytes.{before}
 use Rattle.sdc_model.specs.Commands.{may_follow}
 use Rattle.sdc_model.specs.Continued.{continues}

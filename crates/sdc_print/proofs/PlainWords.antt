@@ -4,8 +4,8 @@ use Rattle.std.specs.List.{list_all}
 use Rattle.std.proofs.lemmas.Bool.{cases_Bool, both_ways, and_parts, not_from_false}
 use Rattle.std.proofs.lemmas.Bool.Decides.{nat_tests}
 use Rattle.std.proofs.lemmas.List.{length-append, take_at, append-nil}
-use Rattle.sdc_model.specs.declared.commands.Part.TheVariants as part
-use Rattle.sdc_model.specs.declared.commands.Word.{Word}
+use Rattle.source_types.specs.declared.commands.Part.TheVariants as part
+use Rattle.source_types.specs.declared.commands.Word.{Word}
 use Rattle.sdc_model.specs.Bytes.{before, behind, front, is_end, is_name_byte, is_space, leads_word}
 use Rattle.sdc_model.specs.Commands.{ArePieces, IsBare, IsBraced, IsWord, IsWordOf, StandsWord, bare_opens, ended_closed, may_follow, opening}
 use Rattle.sdc_model.specs.Continued.{behind_gap, continues, from_command, parting}

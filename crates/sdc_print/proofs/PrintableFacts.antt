@@ -1,8 +1,8 @@
 -- One more printable clock behind others.
 use Rattle.std.proofs.Common.{◌≡◌, ℕ, false, IsTrue, List, [], ◌∷◌, ◌++◌, refl, sym, subst, append_assoc, ap, ◌∙◌}
 use Rattle.std.proofs.lemmas.List.{append-nil}
-use Rattle.sdc_model.specs.declared.clocks.Clock.{Clock}
-use Rattle.sdc_model.specs.declared.clocks.Wave.{Wave}
+use Rattle.timing_types.specs.declared.clocks.Clock.{Clock}
+use Rattle.timing_types.specs.declared.clocks.Wave.{Wave}
 use Rattle.sdc_model.specs.ClockFile.{is_name, is_taken, virtual_clock}
 use Rattle.sdc_model.specs.PrintedFile.{ArePrintableClocks, IsPrintableClock, IsPrintableWave}
 

@@ -4,9 +4,9 @@ use Rattle.std.proofs.lemmas.Bool.{and_parts, ltb-true}
 use Rattle.std.specs.List.{list_all}
 use Rattle.sdc_base.proofs.CaseFacts.{by_bool}
 use Rattle.sdc_base.specs.Time.{time_text_of}
-use Rattle.sdc_model.specs.declared.clocks.Clock.{Clock}
-use Rattle.sdc_model.specs.declared.clocks.Wave.{Wave}
-use Rattle.sdc_model.specs.declared.commands.Command.{Command}
+use Rattle.timing_types.specs.declared.clocks.Clock.{Clock}
+use Rattle.timing_types.specs.declared.clocks.Wave.{Wave}
+use Rattle.source_types.specs.declared.commands.Command.{Command}
 use Rattle.sdc_model.specs.Bytes.{is_name_byte}
 use Rattle.sdc_model.specs.ClockFile.{SaysMode, SoFar, clock_mode, do_all, is_name, mode_of, or_fault}
 use Rattle.sdc_model.specs.PrintedCommands.{commands_of}

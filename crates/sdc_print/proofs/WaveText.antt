@@ -12,7 +12,7 @@ use Rattle.sdc_base.specs.declared.fixed.NumberError.{NumberError}
 use Rattle.sdc_base.specs.NumberLaws.{IsTimeText, ReadsBack, is_time_byte}
 use Rattle.sdc_base.specs.Time.{time_text_of}
 use Rattle.sdc_base.proofs.ReadBackFacts.{time_text_plain, time_text_reads_back}
-use Rattle.sdc_model.specs.declared.clocks.Wave.{Wave}
+use Rattle.timing_types.specs.declared.clocks.Wave.{Wave}
 use Rattle.sdc_model.specs.ClockFile.{wave_given}
 use Rattle.sdc_model.specs.PrintedFile.{IsPrintableWave}
 use Rattle.sdc_model.specs.PrintedLine.{spaced}

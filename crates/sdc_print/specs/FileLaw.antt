@@ -1,7 +1,7 @@
 -- That a printed file says what was printed: this project's own law of printing.
 use Rattle.std.specs.Prelude.{◌≡◌, pos, Ok}
-use Rattle.sdc_model.specs.declared.designs.Design.{Design}
-use Rattle.sdc_model.specs.declared.modes.Mode.{Mode}
+use Rattle.timing_types.specs.declared.designs.Design.{Design}
+use Rattle.timing_types.specs.declared.modes.Mode.{Mode}
 use Rattle.sdc_model.specs.ClockFile.{SaysMode}
 use Rattle.sdc_model.specs.PrintedFile.{IsPrintable, printed_file, without_lines}
 

@@ -1,7 +1,7 @@
 -- The bytes of the lines of a clock. Small words for this crate's private functions.
 use Rattle.std.specs.Prelude.{ℕ, ℤ, List}
-use Rattle.sdc_model.specs.declared.clocks.Form.{Form}
-use Rattle.sdc_model.specs.declared.clocks.Wave.{Wave}
+use Rattle.timing_types.specs.declared.clocks.Form.{Form}
+use Rattle.timing_types.specs.declared.clocks.Wave.{Wave}
 use Rattle.sdc_model.specs.PrintedLine.{line_text, lines_text}
 use Rattle.sdc_model.specs.PrintedFile.{clock_line, lines_of_form}
 

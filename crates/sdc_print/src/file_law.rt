@@ -1,7 +1,7 @@
 //! What is true of every printed file: it says what was printed.
 
-ghost use Rattle.sdc_model.specs.declared.designs.Design.{Design};
-ghost use Rattle.sdc_model.specs.declared.modes.Mode.{Mode};
+ghost use Rattle.timing_types.specs.declared.designs.Design.{Design};
+ghost use Rattle.timing_types.specs.declared.modes.Mode.{Mode};
 ghost use Rattle.sdc_print.specs.FileLaw.{FileReadsBack};
 
 /// A file that was printed in nanoseconds says the mode that it was printed from, apart from the lines of its clocks.

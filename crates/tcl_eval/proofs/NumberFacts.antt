@@ -8,8 +8,8 @@ use Rattle.std.specs.Str.{IsCharBoundary}
 use Rattle.sdc_base.specs.declared.fixed.NumberError.{NumberError}
 use Rattle.sdc_base.specs.declared.fixed.NumberError.TheVariants.{DivideByZero, NumberForm, NumberRange}
 use Rattle.sdc_base.specs.Number.{Number, parts_of, read_number}
-use Rattle.sdc_model.specs.declared.expressions.ExpressionToken.TheVariants as token
-use Rattle.sdc_model.specs.declared.kinds.TclKind.TheVariants.{BadExpr}
+use Rattle.source_types.specs.declared.expressions.ExpressionToken.TheVariants as token
+use Rattle.source_types.specs.declared.kinds.TclKind.TheVariants.{BadExpr}
 use Rattle.sdc_model.specs.Bytes.{before, begins_with, behind, is_digit}
 use Rattle.sdc_model.specs.ExpressionTokens.{begins_digits, begins_exponent, behind_decimals, behind_exponent, behind_number, behind_sign, malformed, number_front, number_token}
 use Rattle.sdc_model.specs.Row.{found, stops}

@@ -1,7 +1,7 @@
 -- A text has one form as an expression, or none.
 use Rattle.std.proofs.Common.{◌≡◌, ℕ, List, Result, Ok, Err, sym, ap, ◌∙◌}
-use Rattle.sdc_model.specs.declared.expressions.Expression.{Expression}
-use Rattle.sdc_model.specs.declared.kinds.TclKind.{TclKind}
+use Rattle.source_types.specs.declared.expressions.Expression.{Expression}
+use Rattle.source_types.specs.declared.kinds.TclKind.{TclKind}
 use Rattle.sdc_model.specs.ExpressionForm.{IsExpression, Tree, spelling}
 use Rattle.sdc_model.specs.ExpressionSteps.{ParsesTo, kept}
 use Rattle.sdc_model.specs.ExpressionTokens.{StandsToken, all_read}

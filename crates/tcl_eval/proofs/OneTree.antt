@@ -2,11 +2,11 @@
 use Rattle.std.proofs.Common.{◌≡◌, ◌<◌, ◌≤◌, ◌++◌, ℕ, Bool, true, false, List, [], ◌∷◌, Option, Some, None, if◌then◌else◌, refl, sym, ap, ◌∙◌, arith, append_assoc}
 use Rattle.std.proofs.lemmas.List.{append-nil}
 use Rattle.std.specs.Prelude.{option_and_then}
-use Rattle.sdc_model.specs.declared.expressions.BinaryOperator.{BinaryOperator}
-use Rattle.sdc_model.specs.declared.expressions.ExpressionToken.{ExpressionToken}
-use Rattle.sdc_model.specs.declared.expressions.ExpressionToken.TheVariants as token
-use Rattle.sdc_model.specs.declared.expressions.UnaryOperator.{UnaryOperator}
-use Rattle.sdc_model.specs.declared.expressions.UnaryOperator.TheVariants.{Minus, Not, Plus}
+use Rattle.source_types.specs.declared.expressions.BinaryOperator.{BinaryOperator}
+use Rattle.source_types.specs.declared.expressions.ExpressionToken.{ExpressionToken}
+use Rattle.source_types.specs.declared.expressions.ExpressionToken.TheVariants as token
+use Rattle.source_types.specs.declared.expressions.UnaryOperator.{UnaryOperator}
+use Rattle.source_types.specs.declared.expressions.UnaryOperator.TheVariants.{Minus, Not, Plus}
 use Rattle.sdc_model.specs.ExpressionForm.{IsGrouped, Tree, binary, binding, number, parentheses, spelling, tightness, unary, unary_binding, unary_token, word}
 use Rattle.tcl_eval.specs.declared.waiting.Waiting.{Waiting}
 use Rattle.tcl_eval.specs.declared.waiting.Waiting.TheVariants as waiting

@@ -6,10 +6,10 @@ use Rattle.std.specs.Str.{IsCharBoundary, IsUtf8}
 use Rattle.sdc_base.specs.Gives.{Meets}
 use Rattle.sdc_base.specs.declared.memory.Stop.{Stop}
 use Rattle.sdc_base.specs.declared.memory.Stop.TheVariants.{NoMemory, Refused}
-use Rattle.sdc_model.specs.declared.expressions.Expression.{Expression}
-use Rattle.sdc_model.specs.declared.expressions.ExpressionToken.{ExpressionToken}
-use Rattle.sdc_model.specs.declared.kinds.TclKind.{TclKind}
-use Rattle.sdc_model.specs.declared.kinds.TclKind.TheVariants.{BadExpr}
+use Rattle.source_types.specs.declared.expressions.Expression.{Expression}
+use Rattle.source_types.specs.declared.expressions.ExpressionToken.{ExpressionToken}
+use Rattle.source_types.specs.declared.kinds.TclKind.{TclKind}
+use Rattle.source_types.specs.declared.kinds.TclKind.TheVariants.{BadExpr}
 use Rattle.sdc_model.specs.ExpressionForm.{IsExpression, Tree, spelling}
 use Rattle.sdc_model.specs.ExpressionSteps.{ParsesTo, kept}
 use Rattle.sdc_model.specs.ExpressionTokens.{AreTokens, Halt, StandsToken, TokenFront, all_read, malformed}

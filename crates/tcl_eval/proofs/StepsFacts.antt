@@ -1,14 +1,14 @@
 -- The steps of a tree, one after the other, give what the tree gives.
 use Rattle.std.proofs.Common.{◌≡◌, ◌+◌, ◌++◌, ℕ, suc, true, false, List, [], ◌∷◌, Option, Some, None, Result, Ok, Err, refl, sym, ap, subst, ◌∙◌, arith, append_assoc}
 use Rattle.std.proofs.lemmas.List.{append-nil}
-use Rattle.sdc_model.specs.declared.commands.Word.{Word}
-use Rattle.sdc_model.specs.declared.expressions.BinaryOperator.{BinaryOperator}
-use Rattle.sdc_model.specs.declared.expressions.BinaryOperator.TheVariants.{Add, And, Divide, Equal, Greater, GreaterEqual, Less, LessEqual, Multiply, NotEqual, Or, Remainder, Subtract, TextEqual, TextNotEqual}
-use Rattle.sdc_model.specs.declared.expressions.ExpressionStep.{ExpressionStep}
-use Rattle.sdc_model.specs.declared.expressions.ExpressionStep.TheVariants as made
-use Rattle.sdc_model.specs.declared.expressions.Scalar.{Scalar}
-use Rattle.sdc_model.specs.declared.kinds.Kind.{Kind}
-use Rattle.sdc_model.specs.declared.kinds.TclKind.{TclKind}
+use Rattle.source_types.specs.declared.commands.Word.{Word}
+use Rattle.source_types.specs.declared.expressions.BinaryOperator.{BinaryOperator}
+use Rattle.source_types.specs.declared.expressions.BinaryOperator.TheVariants.{Add, And, Divide, Equal, Greater, GreaterEqual, Less, LessEqual, Multiply, NotEqual, Or, Remainder, Subtract, TextEqual, TextNotEqual}
+use Rattle.source_types.specs.declared.expressions.ExpressionStep.{ExpressionStep}
+use Rattle.source_types.specs.declared.expressions.ExpressionStep.TheVariants as made
+use Rattle.source_types.specs.declared.expressions.Scalar.{Scalar}
+use Rattle.source_types.specs.declared.kinds.Kind.{Kind}
+use Rattle.source_types.specs.declared.kinds.TclKind.{TclKind}
 use Rattle.sdc_model.specs.ExpressionForm.{Tree, binary, number, parentheses, unary, word}
 use Rattle.sdc_model.specs.ExpressionRun.{Evaluates, RunsRight, Turn, as_scalar, raised}
 use Rattle.sdc_model.specs.ExpressionSteps.{decision, steps_of}

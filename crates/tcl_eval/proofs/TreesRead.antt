@@ -2,15 +2,15 @@
 use Rattle.std.proofs.Common.{◌≡◌, ◌≤◌, ◌-◌, ◌++◌, ℕ, suc, max, Bool, true, false, List, [], ◌∷◌, Option, Some, None, is_none, if◌then◌else◌, refl, sym, ap, subst, ◌∙◌, arith, append_assoc}
 use Rattle.std.proofs.lemmas.List.{append-nil}
 use Rattle.std.specs.Prelude.{option_and_then}
-use Rattle.sdc_model.specs.declared.expressions.BinaryOperator.{BinaryOperator}
-use Rattle.sdc_model.specs.declared.expressions.BinaryOperator.TheVariants.{Add, And, Divide, Equal, Greater, GreaterEqual, Less, LessEqual, Multiply, NotEqual, Or, Remainder, Subtract, TextEqual, TextNotEqual}
-use Rattle.sdc_model.specs.declared.expressions.Expression.{Expression}
-use Rattle.sdc_model.specs.declared.expressions.ExpressionStep.{ExpressionStep}
-use Rattle.sdc_model.specs.declared.expressions.ExpressionStep.TheVariants as made
-use Rattle.sdc_model.specs.declared.expressions.ExpressionToken.{ExpressionToken}
-use Rattle.sdc_model.specs.declared.expressions.ExpressionToken.TheVariants as token
-use Rattle.sdc_model.specs.declared.expressions.UnaryOperator.{UnaryOperator}
-use Rattle.sdc_model.specs.declared.expressions.UnaryOperator.TheVariants.{Minus, Not, Plus}
+use Rattle.source_types.specs.declared.expressions.BinaryOperator.{BinaryOperator}
+use Rattle.source_types.specs.declared.expressions.BinaryOperator.TheVariants.{Add, And, Divide, Equal, Greater, GreaterEqual, Less, LessEqual, Multiply, NotEqual, Or, Remainder, Subtract, TextEqual, TextNotEqual}
+use Rattle.source_types.specs.declared.expressions.Expression.{Expression}
+use Rattle.source_types.specs.declared.expressions.ExpressionStep.{ExpressionStep}
+use Rattle.source_types.specs.declared.expressions.ExpressionStep.TheVariants as made
+use Rattle.source_types.specs.declared.expressions.ExpressionToken.{ExpressionToken}
+use Rattle.source_types.specs.declared.expressions.ExpressionToken.TheVariants as token
+use Rattle.source_types.specs.declared.expressions.UnaryOperator.{UnaryOperator}
+use Rattle.source_types.specs.declared.expressions.UnaryOperator.TheVariants.{Minus, Not, Plus}
 use Rattle.tcl_eval.specs.declared.waiting.Waiting.{Waiting}
 use Rattle.tcl_eval.specs.declared.waiting.Waiting.TheVariants as waiting
 use Rattle.sdc_model.specs.ExpressionForm.{IsGrouped, Tree, binding, number, parentheses, spelling, tightness, unary_binding, unary_token, word}

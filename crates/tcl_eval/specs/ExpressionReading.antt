@@ -2,15 +2,15 @@
 -- and operators wait for their right side until a weaker one, a parenthesis or the end comes. This project's own; that
 -- it gives what the form of expressions says is proved. Read `step` first.
 use Rattle.std.specs.Prelude.{◌++◌, ◌-◌, ℕ, suc, max, Bool, true, false, nat_le, if◌then◌else◌, List, [], ◌∷◌, Option, Some, None, option_and_then}
-use Rattle.sdc_model.specs.declared.expressions.BinaryOperator.{BinaryOperator}
-use Rattle.sdc_model.specs.declared.expressions.BinaryOperator.TheVariants.{Add, And, Divide, Equal, Greater, GreaterEqual, Less, LessEqual, Multiply, NotEqual, Or, Remainder, Subtract, TextEqual, TextNotEqual}
-use Rattle.sdc_model.specs.declared.expressions.Expression.{Expression}
-use Rattle.sdc_model.specs.declared.expressions.ExpressionStep.{ExpressionStep}
-use Rattle.sdc_model.specs.declared.expressions.ExpressionStep.TheVariants as made
-use Rattle.sdc_model.specs.declared.expressions.ExpressionToken.{ExpressionToken}
-use Rattle.sdc_model.specs.declared.expressions.ExpressionToken.TheVariants as token
-use Rattle.sdc_model.specs.declared.expressions.UnaryOperator.{UnaryOperator}
-use Rattle.sdc_model.specs.declared.expressions.UnaryOperator.TheVariants.{Minus, Not, Plus}
+use Rattle.source_types.specs.declared.expressions.BinaryOperator.{BinaryOperator}
+use Rattle.source_types.specs.declared.expressions.BinaryOperator.TheVariants.{Add, And, Divide, Equal, Greater, GreaterEqual, Less, LessEqual, Multiply, NotEqual, Or, Remainder, Subtract, TextEqual, TextNotEqual}
+use Rattle.source_types.specs.declared.expressions.Expression.{Expression}
+use Rattle.source_types.specs.declared.expressions.ExpressionStep.{ExpressionStep}
+use Rattle.source_types.specs.declared.expressions.ExpressionStep.TheVariants as made
+use Rattle.source_types.specs.declared.expressions.ExpressionToken.{ExpressionToken}
+use Rattle.source_types.specs.declared.expressions.ExpressionToken.TheVariants as token
+use Rattle.source_types.specs.declared.expressions.UnaryOperator.{UnaryOperator}
+use Rattle.source_types.specs.declared.expressions.UnaryOperator.TheVariants.{Minus, Not, Plus}
 use Rattle.tcl_eval.specs.declared.waiting.Waiting.{Waiting}
 use Rattle.tcl_eval.specs.declared.waiting.Waiting.TheVariants as waiting
 use Rattle.sdc_model.specs.ExpressionForm.{binding}

@@ -1,8 +1,8 @@
 -- That a text has one form as an expression: one tree, one parsed form, or none. This project's own rule of reading it.
 -- So `BadExpr` is answered exactly where the form of expressions has nothing else.
 use Rattle.std.specs.Prelude.{◌≡◌, ℕ, List, Result}
-use Rattle.sdc_model.specs.declared.expressions.Expression.{Expression}
-use Rattle.sdc_model.specs.declared.kinds.TclKind.{TclKind}
+use Rattle.source_types.specs.declared.expressions.Expression.{Expression}
+use Rattle.source_types.specs.declared.kinds.TclKind.{TclKind}
 use Rattle.sdc_model.specs.ExpressionForm.{IsExpression, Tree}
 use Rattle.sdc_model.specs.ExpressionSteps.{ParsesTo}
 

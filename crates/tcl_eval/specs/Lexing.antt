@@ -3,10 +3,10 @@
 use Rattle.std.specs.Prelude.{◌≡◌, ◌<◌, ◌≤◌, ◌+◌, ℕ, List, drop, length, slice_index, Option, Some, None, Result, Ok, Err}
 use Rattle.std.specs.Str.{IsCharBoundary}
 use Rattle.sdc_base.specs.declared.memory.Stop.{Stop}
-use Rattle.sdc_model.specs.declared.expressions.BinaryOperator.{BinaryOperator}
-use Rattle.sdc_model.specs.declared.expressions.ExpressionToken.TheVariants as token
-use Rattle.sdc_model.specs.declared.kinds.TclKind.{TclKind}
-use Rattle.sdc_model.specs.declared.kinds.TclKind.TheVariants.{BadExpr}
+use Rattle.source_types.specs.declared.expressions.BinaryOperator.{BinaryOperator}
+use Rattle.source_types.specs.declared.expressions.ExpressionToken.TheVariants as token
+use Rattle.source_types.specs.declared.kinds.TclKind.{TclKind}
+use Rattle.source_types.specs.declared.kinds.TclKind.TheVariants.{BadExpr}
 use Rattle.sdc_model.specs.ExpressionTokens.{StandsToken, TokenFront, all_read, malformed, operator_front, single, single_front}
 use Rattle.sdc_model.specs.Row.{found, stops}
 use Rattle.tcl_words.specs.declared.spelled.Spelled.{Spelled}

@@ -1,7 +1,7 @@
 -- What a `Reading` of this crate stands for, and what is done of what waits. This project's own.
 -- The code keeps the last of what waits at the end.
 use Rattle.std.specs.Prelude.{◌≡◌, ◌<◌, ◌++◌, ℕ, true, false, List, [], ◌∷◌, length, reverse, Option, Some, None}
-use Rattle.sdc_model.specs.declared.expressions.ExpressionStep.{ExpressionStep}
+use Rattle.source_types.specs.declared.expressions.ExpressionStep.{ExpressionStep}
 use Rattle.tcl_eval.specs.declared.reading.Reading.{Reading}
 use Rattle.tcl_eval.specs.declared.waiting.Waiting.{Waiting}
 use Rattle.tcl_eval.specs.ExpressionReading as spec

@@ -2,14 +2,14 @@
 -- project's own; that it is what the expression's tree gives is a law. Where the left side of `&&` or `||` decides,
 -- the steps to the operator's own are passed over: `passed` counts the operators that are still to come.
 use Rattle.std.specs.Prelude.{◌≡◌, ◌+◌, ℕ, zero, suc, Bool, true, false, if◌then◌else◌, List, [], ◌∷◌, Option, Some, None, Result, Ok, Err}
-use Rattle.sdc_model.specs.declared.commands.Word.{Word}
-use Rattle.sdc_model.specs.declared.expressions.BinaryOperator.{BinaryOperator}
-use Rattle.sdc_model.specs.declared.expressions.BinaryOperator.TheVariants.{Add, And, Divide, Equal, Greater, GreaterEqual, Less, LessEqual, Multiply, NotEqual, Or, Remainder, Subtract, TextEqual, TextNotEqual}
-use Rattle.sdc_model.specs.declared.expressions.ExpressionStep.{ExpressionStep}
-use Rattle.sdc_model.specs.declared.expressions.ExpressionStep.TheVariants as step
-use Rattle.sdc_model.specs.declared.expressions.Scalar.{Scalar}
-use Rattle.sdc_model.specs.declared.kinds.Kind.{Kind}
-use Rattle.sdc_model.specs.declared.kinds.TclKind.{TclKind}
+use Rattle.source_types.specs.declared.commands.Word.{Word}
+use Rattle.source_types.specs.declared.expressions.BinaryOperator.{BinaryOperator}
+use Rattle.source_types.specs.declared.expressions.BinaryOperator.TheVariants.{Add, And, Divide, Equal, Greater, GreaterEqual, Less, LessEqual, Multiply, NotEqual, Or, Remainder, Subtract, TextEqual, TextNotEqual}
+use Rattle.source_types.specs.declared.expressions.ExpressionStep.{ExpressionStep}
+use Rattle.source_types.specs.declared.expressions.ExpressionStep.TheVariants as step
+use Rattle.source_types.specs.declared.expressions.Scalar.{Scalar}
+use Rattle.source_types.specs.declared.kinds.Kind.{Kind}
+use Rattle.source_types.specs.declared.kinds.TclKind.{TclKind}
 use Rattle.sdc_model.specs.ExpressionRun.{Turn, as_scalar, raised}
 use Rattle.sdc_model.specs.ExpressionValue.{changed, computed, decided, joined}
 

@@ -1,7 +1,7 @@
 -- The numbers of both sides of an operator, as this crate reads them at once. This project's own.
 use Rattle.std.specs.Prelude.{Result, Ok, Err}
 use Rattle.sdc_base.specs.Number.{Number}
-use Rattle.sdc_model.specs.declared.kinds.TclKind.{TclKind}
+use Rattle.source_types.specs.declared.kinds.TclKind.{TclKind}
 
 -- the left one first
 abbrev pub with_left : Number → Result Number TclKind → Result (Number × Number) TclKind

@@ -2,7 +2,7 @@
 
 ghost use Rattle.std.specs.Prelude.{◌≡◌, ◌||◌, ◌&&◌, not, Ok, if◌then◌else◌};
 ghost use Rattle.sdc_base.specs.Gives.{Gives};
-ghost use Rattle.sdc_model.specs.declared.expressions.BinaryOperator.TheVariants as op;
+ghost use Rattle.source_types.specs.declared.expressions.BinaryOperator.TheVariants as op;
 ghost use Rattle.sdc_model.specs.ExpressionValue as spec;
 
 use crate::values::{

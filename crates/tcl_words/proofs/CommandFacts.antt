@@ -7,10 +7,10 @@ use Rattle.sdc_base.specs.Gives.{Meets}
 use Rattle.sdc_base.specs.declared.memory.At.{At}
 use Rattle.sdc_base.specs.declared.memory.Stop.{Stop}
 use Rattle.sdc_base.specs.declared.memory.Stop.TheVariants.{NoMemory, Refused}
-use Rattle.sdc_model.specs.declared.commands.Command.{Command}
-use Rattle.sdc_model.specs.declared.commands.Next.{Next}
-use Rattle.sdc_model.specs.declared.commands.Word.{Word}
-use Rattle.sdc_model.specs.declared.kinds.TclKind.{TclKind}
+use Rattle.source_types.specs.declared.commands.Command.{Command}
+use Rattle.source_types.specs.declared.commands.Next.{Next}
+use Rattle.source_types.specs.declared.commands.Word.{Word}
+use Rattle.source_types.specs.declared.kinds.TclKind.{TclKind}
 use Rattle.sdc_model.specs.Bytes.{before, begins_with, is_end, is_space, line_after}
 use Rattle.sdc_model.specs.Commands.{AreWords, CommandFront, FirstFrom, IsCommand, IsWordOf, Place, Splits, StandsCommand, StandsWord, WordFront, command_end, ended_command, opening}
 use Rattle.sdc_model.specs.Continued.{Between, behind_gap, comment, continues, from_command, parting, taken}

@@ -1,6 +1,6 @@
 -- The grammar of lists relates one outcome: the items of a text, or one fault, and never two of them.
 use Rattle.std.proofs.Common.{◌≡◌, ℕ, List, [], ◌∷◌, Option, Some, None, Result, Ok, Err, sym, ap, ◌∙◌}
-use Rattle.sdc_model.specs.declared.kinds.TclKind.{TclKind}
+use Rattle.source_types.specs.declared.kinds.TclKind.{TclKind}
 use Rattle.sdc_model.specs.Bytes.{before}
 use Rattle.sdc_model.specs.Enclosed.{behind_brace}
 use Rattle.sdc_model.specs.ListItems.{AreItemPieces, IsBracedItem, IsItem, IsItemOf, ItemFront, Lists, StandsItem, behind_parting, ended_bare_item, ended_closed_item, form_by, item_piece_at}

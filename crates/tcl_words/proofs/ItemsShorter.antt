@@ -1,8 +1,8 @@
 -- What is left of a text behind a piece of an item, and behind the end of one, is shorter.
 use Rattle.std.proofs.Common.{◌≡◌, ◌≤◌, ◌+◌, ◌==◌, inl, inr, ℕ, List, [], ◌∷◌, Result, Ok, Err, length, if◌then◌else◌, ap, arith}
 use Rattle.std.proofs.lemmas.Bool.{cases_Bool}
-use Rattle.sdc_model.specs.declared.kinds.TclKind.{TclKind}
-use Rattle.sdc_model.specs.declared.kinds.TclKind.TheVariants.{Unclosed}
+use Rattle.source_types.specs.declared.kinds.TclKind.{TclKind}
+use Rattle.source_types.specs.declared.kinds.TclKind.TheVariants.{Unclosed}
 use Rattle.sdc_model.specs.Bytes.{behind, is_space}
 use Rattle.sdc_model.specs.Continued.{behind_continued, behind_newline, continues}
 use Rattle.sdc_model.specs.ListItems.{ends_item, item_piece_at}

@@ -2,8 +2,8 @@
 -- piece and each item is shorter, so that the steps are enough.
 use Rattle.std.proofs.Common.{◌≡◌, ◌<◌, ◌≤◌, ◌==◌, ◌&&◌, inl, inr, ◌⊎◌, ℕ, zero, suc, Bool, true, false, List, [], ◌∷◌, Option, Some, None, Result, Ok, Err, length, refl, sym, ap, subst, ◌∙◌, arith}
 use Rattle.std.proofs.lemmas.Bool.{cases_Bool}
-use Rattle.sdc_model.specs.declared.kinds.TclKind.{TclKind}
-use Rattle.sdc_model.specs.declared.kinds.TclKind.TheVariants.{ExtraAfterBrace, Unclosed}
+use Rattle.source_types.specs.declared.kinds.TclKind.{TclKind}
+use Rattle.source_types.specs.declared.kinds.TclKind.TheVariants.{ExtraAfterBrace, Unclosed}
 use Rattle.sdc_model.specs.Bytes.{before, leads_word}
 use Rattle.sdc_model.specs.Continued.{continues}
 use Rattle.sdc_model.specs.Enclosed.{Open, behind_brace, behind_open, brace, opened}

@@ -2,9 +2,9 @@
 use Rattle.std.proofs.Common.{◌≡◌, ◌≤◌, ℕ, false, List, [], ◌∷◌, Option, Some, None, Result, Ok, Err, drop, length, refl, sym, ap, subst, ◌∙◌, arith}
 use Rattle.std.proofs.lemmas.List.{length-drop}
 use Rattle.sdc_base.specs.declared.memory.At.{At}
-use Rattle.sdc_model.specs.declared.commands.Command.{Command}
-use Rattle.sdc_model.specs.declared.commands.Next.{Next}
-use Rattle.sdc_model.specs.declared.kinds.TclKind.{TclKind}
+use Rattle.source_types.specs.declared.commands.Command.{Command}
+use Rattle.source_types.specs.declared.commands.Next.{Next}
+use Rattle.source_types.specs.declared.kinds.TclKind.{TclKind}
 use Rattle.sdc_model.specs.Bytes.{before}
 use Rattle.sdc_model.specs.Commands.{ArePieces, CommandFront, FirstFrom, IsBraced, IsCommand, IsWordOf, Opening, Place, Splits, StandsCommand, StandsWord, WordFront, bare_opens, brace_opens, command_end, command_place, ended_bare, ended_closed, ended_command, opening, quote_opens}
 use Rattle.sdc_model.specs.Continued.{behind_gap, from_command, parting}

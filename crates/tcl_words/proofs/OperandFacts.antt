@@ -5,10 +5,10 @@ use Rattle.std.specs.Str.{IsCharBoundary, IsUtf8}
 use Rattle.sdc_base.specs.Gives.{Meets}
 use Rattle.sdc_base.specs.declared.memory.Stop.{Stop}
 use Rattle.sdc_base.specs.declared.memory.Stop.TheVariants.{NoMemory, Refused}
-use Rattle.sdc_model.specs.declared.commands.Word.{Word}
-use Rattle.sdc_model.specs.declared.expressions.ExpressionToken.TheVariants as token
-use Rattle.sdc_model.specs.declared.kinds.TclKind.{TclKind}
-use Rattle.sdc_model.specs.declared.kinds.TclKind.TheVariants.{BadExpr}
+use Rattle.source_types.specs.declared.commands.Word.{Word}
+use Rattle.source_types.specs.declared.expressions.ExpressionToken.TheVariants as token
+use Rattle.source_types.specs.declared.kinds.TclKind.{TclKind}
+use Rattle.source_types.specs.declared.kinds.TclKind.TheVariants.{BadExpr}
 use Rattle.sdc_model.specs.Enclosed.{behind_brace}
 use Rattle.sdc_model.specs.ExpressionTokens.{IsBracedToken, IsQuotedToken, TokenFront, malformed, script_token, variable_token}
 use Rattle.sdc_model.specs.Pieces as grammar

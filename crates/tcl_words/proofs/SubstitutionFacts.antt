@@ -7,9 +7,9 @@ use Rattle.std.proofs.lemmas.Str.{IsCharBoundary-after_ascii}
 use Rattle.std.specs.Str.{IsCharBoundary}
 use Rattle.sdc_base.specs.Gives.{Meets}
 use Rattle.sdc_base.specs.declared.memory.Stop.{Stop}
-use Rattle.sdc_model.specs.declared.commands.Part.TheVariants as part
-use Rattle.sdc_model.specs.declared.kinds.TclKind.{TclKind}
-use Rattle.sdc_model.specs.declared.kinds.TclKind.TheVariants.{BadWord, Unclosed}
+use Rattle.source_types.specs.declared.commands.Part.TheVariants as part
+use Rattle.source_types.specs.declared.kinds.TclKind.{TclKind}
+use Rattle.source_types.specs.declared.kinds.TclKind.TheVariants.{BadWord, Unclosed}
 use Rattle.sdc_model.specs.Bytes.{before, begins_with, behind, front, is_name_byte}
 use Rattle.sdc_model.specs.Enclosed.{behind_bracket}
 use Rattle.sdc_model.specs.Pieces as grammar

@@ -6,10 +6,10 @@ use Rattle.std.specs.Str.{IsUtf8}
 use Rattle.sdc_base.specs.Gives.{Meets}
 use Rattle.sdc_base.specs.declared.memory.Stop.{Stop}
 use Rattle.sdc_base.specs.declared.memory.Stop.TheVariants.{NoMemory, Refused}
-use Rattle.sdc_model.specs.declared.commands.Word.{Word}
-use Rattle.sdc_model.specs.declared.kinds.TclKind.{TclKind}
-use Rattle.sdc_model.specs.declared.kinds.TclKind.TheVariants.{BadWord, ExtraAfterBrace, Unclosed}
-use Rattle.sdc_model.specs.declared.commands.Part.TheVariants as part
+use Rattle.source_types.specs.declared.commands.Word.{Word}
+use Rattle.source_types.specs.declared.kinds.TclKind.{TclKind}
+use Rattle.source_types.specs.declared.kinds.TclKind.TheVariants.{BadWord, ExtraAfterBrace, Unclosed}
+use Rattle.source_types.specs.declared.commands.Part.TheVariants as part
 use Rattle.sdc_model.specs.Bytes.{before, begins_with, behind, front, is_end, is_name_byte, is_space}
 use Rattle.sdc_model.specs.Commands.{ArePieces, IsBraced, IsWordOf, WordFront, bare_opens, brace_opens, ended_closed, may_follow, opening, quote_opens}
 use Rattle.sdc_model.specs.Continued.{continues}

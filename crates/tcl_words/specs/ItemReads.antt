@@ -2,7 +2,7 @@
 -- lists finds, over the grammar of lists. Each says what was read, and where it ends.
 use Rattle.std.specs.Prelude.{◌≡◌, ◌<◌, ◌≤◌, ◌||◌, ◌&&◌, ◌==◌, ◌⊎◌, ℕ, Bool, false, not, List, [], ◌∷◌, Some, drop, length, Result, Ok, Err}
 use Rattle.std.specs.Str.{IsCharBoundary}
-use Rattle.sdc_model.specs.declared.kinds.TclKind.{TclKind}
+use Rattle.source_types.specs.declared.kinds.TclKind.{TclKind}
 use Rattle.sdc_model.specs.Continued.{continues}
 use Rattle.sdc_model.specs.ListItems.{AreItemPieces, IsItem, parts_items, text_of}
 use Rattle.sdc_model.specs.Pieces as grammar

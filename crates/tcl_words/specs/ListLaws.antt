@@ -2,7 +2,7 @@
 -- So a text always has items or a first fault and never both, and a fault is answered exactly where the grammar has
 -- nothing else.
 use Rattle.std.specs.Prelude.{◌≡◌, ◌↔◌, ℕ, List, Result}
-use Rattle.sdc_model.specs.declared.kinds.TclKind.{TclKind}
+use Rattle.source_types.specs.declared.kinds.TclKind.{TclKind}
 use Rattle.sdc_model.specs.ListItems.{Lists}
 use Rattle.sdc_model.specs.ListReading.{list_of}
 

@@ -4,9 +4,9 @@ use Rattle.std.specs.Prelude.{◌≡◌, ◌<◌, ◌≤◌, ℕ, List, [], ◌�
 use Rattle.std.specs.Str.{IsCharBoundary}
 use Rattle.sdc_base.specs.declared.memory.Stop.{Stop}
 use Rattle.sdc_base.specs.declared.memory.Stop.TheVariants.{NoMemory, Refused}
-use Rattle.sdc_model.specs.declared.expressions.ExpressionToken.TheVariants as token
-use Rattle.sdc_model.specs.declared.kinds.TclKind.{TclKind}
-use Rattle.sdc_model.specs.declared.kinds.TclKind.TheVariants.{BadExpr}
+use Rattle.source_types.specs.declared.expressions.ExpressionToken.TheVariants as token
+use Rattle.source_types.specs.declared.kinds.TclKind.{TclKind}
+use Rattle.source_types.specs.declared.kinds.TclKind.TheVariants.{BadExpr}
 use Rattle.sdc_model.specs.ExpressionTokens.{TokenFront, malformed}
 use Rattle.sdc_model.specs.Row.{found, stops}
 use Rattle.sdc_model.specs.WordParts.{word_of_pieces}

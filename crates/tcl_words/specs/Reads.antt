@@ -2,8 +2,8 @@
 -- what the reader of commands finds, over the grammar of commands. Each says what was read, and where it ends.
 use Rattle.std.specs.Prelude.{◌≡◌, ◌<◌, ◌≤◌, ◌||◌, ◌&&◌, ◌==◌, ◌⊎◌, ℕ, Bool, false, not, List, [], ◌∷◌, drop, length, Result, Ok, Err}
 use Rattle.std.specs.Str.{IsCharBoundary}
-use Rattle.sdc_model.specs.declared.commands.Word.{Word}
-use Rattle.sdc_model.specs.declared.kinds.TclKind.{TclKind}
+use Rattle.source_types.specs.declared.commands.Word.{Word}
+use Rattle.source_types.specs.declared.kinds.TclKind.{TclKind}
 use Rattle.sdc_model.specs.Bytes.{is_end, is_space}
 use Rattle.sdc_model.specs.Commands.{ArePieces, AreWords, IsWordOf, opening}
 use Rattle.sdc_model.specs.Continued.{continues}

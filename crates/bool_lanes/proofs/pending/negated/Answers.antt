@@ -1,5 +1,5 @@
 use Rattle.std.proofs.Common.{◌≡◌, ◌+◌, ◌∷◌, drop, drop-cons, get_or, add-one, subst, sym}
-use Rattle.sdc_model.specs.declared.functions.Expr.TheVariants as expr
+use Rattle.source_types.specs.declared.functions.Expr.TheVariants as expr
 use Rattle.sdc_model.specs.FunctionText.{negated}
 use Rattle.bool_lanes.proofs.pending.negated.Goals as goal
 

@@ -1,6 +1,6 @@
 use Rattle.std.proofs.Common.{◌≡◌, ◌∙◌, ◌<◌, List, length, get_or, sym, subst}
 use Rattle.std.specs.List.Sorted.{IsPermutation}
-use Rattle.sdc_model.specs.declared.identities.Standing.{Standing}
+use Rattle.timing_types.specs.declared.identities.Standing.{Standing}
 use Rattle.clock_map.proofs.RankLists.{identities_step}
 use Rattle.clock_map.proofs.ranks.mode_identities.Goals as goal
 

@@ -1,5 +1,5 @@
 use Rattle.std.proofs.Common.{◌≡◌, ◌<◌, ap, length, get_or}
-use Rattle.sdc_model.specs.declared.clocks.Wave.{Wave}
+use Rattle.timing_types.specs.declared.clocks.Wave.{Wave}
 use Rattle.clock_map.proofs.StandingLists.{standings_step, plain_standing}
 use Rattle.clock_map.proofs.standings.mode_standings.Goals as goal
 

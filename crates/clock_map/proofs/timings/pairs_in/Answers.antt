@@ -1,6 +1,6 @@
 use Rattle.std.proofs.Common.{◌≤◌, length, get_or, List, ap, subst}
 use Rattle.std.proofs.lemmas.List.{take_all}
-use Rattle.sdc_model.specs.declared.clocks.Pair.{Pair}
+use Rattle.timing_types.specs.declared.clocks.Pair.{Pair}
 use Rattle.clock_map.specs.Timings.{HoldsPairs}
 use Rattle.clock_map.proofs.PairSets.{pairs_step}
 use Rattle.clock_map.proofs.timings.pairs_in.Goals as goal

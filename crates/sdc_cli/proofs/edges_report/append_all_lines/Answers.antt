@@ -1,6 +1,6 @@
 use Rattle.std.proofs.Common.{[], List, refl, sym, subst}
 use Rattle.std.proofs.lemmas.List.{drop_all}
-use Rattle.sdc_model.specs.declared.edge_times.TimedEdge.{TimedEdge}
+use Rattle.timing_types.specs.declared.edge_times.TimedEdge.{TimedEdge}
 use Rattle.sdc_model.specs.EdgesText.{AreTimed, AreLines}
 use Rattle.sdc_cli.proofs.EdgeLines.{drop-item, Lines-more, all_appended}
 use Rattle.sdc_cli.proofs.edges_report.append_all_lines.Goals as goal

@@ -1,5 +1,5 @@
 use Rattle.std.proofs.Common.{◌≡◌, take}
-use Rattle.sdc_model.specs.declared.clocks.Pair.{Pair}
+use Rattle.timing_types.specs.declared.clocks.Pair.{Pair}
 use Rattle.sdc_cli.specs.Exclusive.{has_pair, parts_in}
 use Rattle.sdc_cli.proofs.group_pairs.pairs_of_groups.Given as goal
 

@@ -5,10 +5,10 @@ use Rattle.sdc_base.specs.Gives.{Meets}
 use Rattle.sdc_base.specs.declared.memory.At.{At}
 use Rattle.sdc_base.specs.declared.memory.Stop.{Stop}
 use Rattle.sdc_base.specs.declared.memory.Stop.TheVariants as stop
-use Rattle.sdc_model.specs.declared.commands.Command.{Command}
-use Rattle.sdc_model.specs.declared.kinds.Kind.{Kind}
-use Rattle.sdc_model.specs.declared.kinds.TclKind.{TclKind}
-use Rattle.sdc_model.specs.declared.modes.Mode.{Mode}
+use Rattle.source_types.specs.declared.commands.Command.{Command}
+use Rattle.source_types.specs.declared.kinds.Kind.{Kind}
+use Rattle.source_types.specs.declared.kinds.TclKind.{TclKind}
+use Rattle.timing_types.specs.declared.modes.Mode.{Mode}
 use Rattle.sdc_model.specs.ClockFile.{SoFar, SaysModeAt, GivesKind, mode_of}
 use Rattle.sdc_model.specs.Commands.{Splits}
 use Rattle.sdc_cli.specs.ModeBytes.{made_mode}

@@ -5,7 +5,7 @@ use Rattle.sdc_base.specs.Gives.{Meets}
 use Rattle.sdc_base.specs.declared.memory.At.{At}
 use Rattle.sdc_base.specs.declared.memory.Stop.{Stop}
 use Rattle.sdc_base.specs.declared.memory.Stop.TheVariants as stop
-use Rattle.sdc_model.specs.declared.kinds.Kind.{Kind}
+use Rattle.source_types.specs.declared.kinds.Kind.{Kind}
 use Rattle.sdc_model.specs.ClockFile.{SaysModeAt}
 use Rattle.sdc_cli.specs.ModeBytes.{SaysAtMost, made_mode}
 use Rattle.sdc_cli.proofs.mode_file.read_mode.Goals as goal

@@ -3,7 +3,7 @@ use Rattle.std.proofs.lemmas.Result.{err_from_is_err_and}
 use Rattle.std.proofs.lemmas.Str.{IsCharBoundary-start}
 use Rattle.std.specs.Option.{IfSome}
 use Rattle.std.specs.Str.{IsCharBoundary}
-use Rattle.sdc_model.specs.declared.commands.Next.{Next}
+use Rattle.source_types.specs.declared.commands.Next.{Next}
 use Rattle.sdc_model.specs.Commands.{FirstFrom}
 use Rattle.tcl_words.proofs.CommandFacts.{commands_all, commands_stop, commands_more, commands_none}
 use Rattle.tcl_words.proofs.reader.split.Goals as goal

@@ -2,8 +2,8 @@
 
 use crate::constraints::{ExCommand, Exception};
 use crate::objects::Object;
-use crate::pins::Edge;
 use sdc_base::{Duplicate, List, NoMemory};
+use source_types::Edge;
 use std::alloc::Global;
 
 /// The sides that a command names.

@@ -1,8 +1,8 @@
 //! The timing graph of a design: nodes, joined by arcs, and the checks at its pins.
 //! `specs/TimingGraph.antt` says which arcs and checks a design has. This project's own.
 
-use crate::pins::{Node, Pin, Side};
 use sdc_base::{Duplicate, List, NoMemory};
+use source_types::{Node, Pin, Side};
 use std::alloc::Global;
 
 /// What an arc is: a net from its driver to a load, a path through a cell, or the step from a register's clock

@@ -1,7 +1,7 @@
 //! The limits of paths, by where they begin and end. This project's own.
 
-use crate::pins::{ClockEdge, Node, Pin, Side};
 use sdc_base::{Duplicate, List, NoMemory};
+use source_types::{ClockEdge, Node, Pin, Side};
 use std::alloc::Global;
 
 /// What the paths of one class have in each view: a limit in femtoseconds where the view times them, and the place

@@ -1,9 +1,7 @@
 //! A design: what a flattened netlist says of its pins, cells and nets, by their places. This project's own numbering.
 
-use crate::copies::both;
-use crate::library_cells::LibCell;
-use crate::pins::Pin;
 use sdc_base::{Duplicate, List, NoMemory, Text};
+use source_types::{LibCell, Pin, both};
 use std::alloc::Global;
 
 /// What a pin of a design is: a port bit of the top module, or a pin of a cell, by its direction.

@@ -1,10 +1,9 @@
 //! Classes of paths: what all paths through a design have in common that limits look at. This project's own.
 
 use crate::constraints::Exception;
-use crate::copies::both;
 use crate::graphs::Graph;
-use crate::pins::{ClockEdge, Node};
 use sdc_base::{Bits, Duplicate, List, NoMemory};
+use source_types::{ClockEdge, Node, both};
 use std::alloc::Global;
 
 /// A start of paths with a clock edge that launches there.

@@ -1,12 +1,10 @@
 //! The merged mode of several modes, with all that a report says of it. This project's own.
 
 use crate::analyses::Cycle;
-use crate::copies::both;
-use crate::fault_kinds::ModeKind;
 use crate::modes::Mode;
-use crate::pins::{ClockEdge, Node, Pin, Side};
 use crate::views::ClockMap;
 use sdc_base::{At, Duplicate, List, NoMemory, Text};
+use source_types::{ClockEdge, ModeKind, Node, Pin, Side, both};
 use std::alloc::Global;
 
 /// A relation at an endpoint that the merged mode times without need or too strictly, on a path from the launch

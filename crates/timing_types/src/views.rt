@@ -1,10 +1,9 @@
 //! Modes as an analysis sees them, and the clocks of several modes as one list.
 
 use crate::clocks::{Clock, Wave};
-use crate::copies::both;
 use crate::modes::Mode;
-use crate::pins::ClockEdge;
 use sdc_base::{Duplicate, List, NoMemory};
+use source_types::{ClockEdge, both};
 use std::alloc::Global;
 
 /// The clock edges that arrive at each node of a graph, the nodes by number, the edges of a node in order.

@@ -1,7 +1,7 @@
 //! Objects that a command names, commands that are kept as they are, and notes.
 
-use crate::pins::Pin;
 use sdc_base::{Duplicate, List, NoMemory, Text};
+use source_types::Pin;
 use std::alloc::Global;
 
 /// An object of a design or a mode, by its place.

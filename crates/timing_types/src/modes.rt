@@ -2,9 +2,9 @@
 
 use crate::clocks::{Clock, Pair};
 use crate::constraints::{CaseSet, Disable, Exception, IoDelay};
-use crate::copies::both;
 use crate::objects::{Kept, Note};
 use sdc_base::{Duplicate, List, NoMemory};
+use source_types::both;
 use std::alloc::Global;
 
 /// A mode. Clocks, exceptions, kept commands and notes stand in order of execution; exclusive pairs in order,

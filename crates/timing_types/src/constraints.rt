@@ -1,8 +1,7 @@
 //! What a mode says of pins, ports and paths (SDC 2.1), all times in whole femtoseconds.
 
-use crate::copies::both;
-use crate::pins::{ClockEdge, Edge, Pin, Side};
 use sdc_base::{Duplicate, List, NoMemory};
+use source_types::{ClockEdge, Edge, Pin, Side, both};
 use std::alloc::Global;
 
 /// A pin that is set to a value (`set_case_analysis`).

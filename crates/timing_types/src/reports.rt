@@ -1,9 +1,8 @@
 //! What checking and explaining one mode give. This project's own.
 
 use crate::analyses::Cycle;
-use crate::fault_kinds::ModeKind;
-use crate::pins::{ClockEdge, Node, Pin, Side};
 use sdc_base::{At, Duplicate, List, NoMemory};
+use source_types::{ClockEdge, ModeKind, Node, Pin, Side};
 use std::alloc::Global;
 
 /// What a mode was found to lack.

@@ -1,8 +1,8 @@
 //! What of a clock decides which merged clock it is. This project's own rule; `specs/ClockIdentity.antt` says it in full.
 
 use crate::clocks::{Form, Latency, Wave};
-use crate::pins::Pin;
 use sdc_base::{Duplicate, List, NoMemory, Text};
+use source_types::Pin;
 use std::alloc::Global;
 
 /// The definition of a clock, all times in whole femtoseconds: what two clocks share where they may be one.

@@ -1,7 +1,7 @@
 //! Clock edges in time, and how two of them lie to each other.
 
-use crate::pins::Edge;
 use sdc_base::{Duplicate, NoMemory, Text};
+use source_types::Edge;
 use std::alloc::Global;
 
 /// The setup and the hold relation of a launch edge and a capture edge, in whole femtoseconds.

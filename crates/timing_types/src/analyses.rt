@@ -1,8 +1,8 @@
 //! What is derived from a mode over a design. This project's own forms.
 
 use crate::clocks::Wave;
-use crate::pins::Node;
 use sdc_base::{Duplicate, List, NoMemory};
+use source_types::Node;
 use std::alloc::Global;
 
 /// The value of each pin that is constant, by pin. `specs/ConstantValues.antt` says which.

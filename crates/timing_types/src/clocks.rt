@@ -1,8 +1,8 @@
 //! Clocks as a mode defines them (SDC 2.1, `create_clock` and `create_generated_clock`), all times in whole
 //! femtoseconds.
 
-use crate::pins::Pin;
 use sdc_base::{Duplicate, List, NoMemory, Text};
+use source_types::Pin;
 use std::alloc::Global;
 
 /// The waveform of a clock: its period, and the times of its first rise and of the fall after it.

@@ -1,7 +1,7 @@
 //! Timing paths, and what exceptions and limits look at of one (SDC 2.1). This project's own forms.
 
-use crate::pins::{ClockEdge, Node};
 use sdc_base::{Bits, Duplicate, List, NoMemory};
+use source_types::{ClockEdge, Node};
 use std::alloc::Global;
 
 /// A path with the clock edges that launch and capture it. `specs/TimingPath.antt` says which node lists are paths.

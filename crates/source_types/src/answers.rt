@@ -1,7 +1,7 @@
 //! What a run of the tool answers.
 
 ghost use Rattle.std.specs.Prelude.{◌≡◌};
-ghost use Rattle.sdc_model.specs.declared.answers.Status.TheVariants as status;
+ghost use Rattle.source_types.specs.declared.answers.Status.TheVariants as status;
 
 use crate::kinds::Fault;
 use sdc_base::NoMemory;
