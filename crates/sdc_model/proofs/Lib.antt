@@ -1,3 +1,4 @@
 pub mod LibertyDecides
+pub mod ModeExamples
 pub mod RowFacts
 pub mod VerilogDecides

@@ -1,18 +1,19 @@
 -- Groups of clocks, and the pairs of clocks that they make exclusive (SDC 2.1, set_clock_groups).
--- Clocks are known by their places. All pairs of different clocks in the two groups of a command are exclusive.
-use Rattle.std.specs.Prelude.{◌==◌, ◌&&◌, ◌||◌, ◌+◌, ◌++◌, ℕ, zero, suc, Bool, false, List, [], ◌∷◌, codes, Option, Some, None, nat_eq, if◌then◌else◌}
-use Rattle.std.specs.List.{list_any, starts_with}
-use Rattle.std.specs.Prelude.{drop}
+-- Clocks are known by their places. All pairs of different clocks in different groups of a command are exclusive, and one
+-- group alone stands against all other clocks of the mode.
+use Rattle.std.specs.Prelude.{◌==◌, ◌&&◌, ◌||◌, ◌+◌, ◌++◌, ℕ, zero, suc, Bool, false, List, [], ◌∷◌, length, map, Option, Some, None, nat_lt, if◌then◌else◌}
+use Rattle.std.specs.List.{list_any}
 use Rattle.std.specs.Option.{option_and_then}
 use Rattle.timing_types.specs.declared.clocks.Clock.{Clock}
 use Rattle.timing_types.specs.declared.clocks.Pair.{Pair}
-use Rattle.source_types.specs.declared.commands.Part.{Part}
-use Rattle.source_types.specs.declared.commands.Part.TheVariants as part
-use Rattle.sdc_model.specs.Bytes.{is_blank}
+use Rattle.timing_types.specs.declared.objects.Object.{Object}
+use Rattle.timing_types.specs.declared.objects.Object.TheVariants as object
+use Rattle.timing_types.specs.declared.objects.Value.{Value}
+use Rattle.timing_types.specs.declared.objects.Value.TheVariants as value
 use Rattle.sdc_model.specs.ListReading.{items_of}
 use Rattle.sdc_model.specs.Words.{same_text}
 
--- the two groups of a command
+-- two groups that stand against each other
 pub record Groups : Type 0 where
   pub first : List ℕ
   pub second : List ℕ
@@ -28,54 +29,56 @@ places_of clocks [] = Some []
 places_of clocks (name ∷ names) =
     option_and_then (λ place. option_and_then (λ places. Some (place ∷ places)) (places_of clocks names)) (place_from 0 clocks name)
 
--- a text without the blanks at its front
-abbrev pub behind_blanks : List ℕ → List ℕ
-behind_blanks [] = []
-behind_blanks (b ∷ bs) = if is_blank b then behind_blanks bs else b ∷ bs
-
--- a text that begins with a brace
-abbrev pub from_brace : List ℕ → Option (List ℕ)
-from_brace [] = None
-from_brace (b ∷ bs) = if b == 123 then Some (b ∷ bs) else None
-
--- the text of a query `get_clocks {..}` from its brace on
-abbrev pub behind_query : List ℕ → Option (List ℕ)
-behind_query [] = None
-behind_query (b ∷ bs) = if is_blank b then from_brace (behind_blanks bs) else None
-
-abbrev pub query_braces : List ℕ → Option (List ℕ)
-query_braces script =
-    let text = behind_blanks script in
-    if starts_with nat_eq text (codes "get_clocks") then behind_query (drop 10 text) else None
-
--- the item of a list of one
-abbrev pub only_item : List (List ℕ) → Option (List ℕ)
-only_item (item ∷ []) = Some item
-only_item _ = None
-
--- the text in the braces of a query with nothing behind them: as a list (Tcl) they are one item
-abbrev pub query_list : List ℕ → Option (List ℕ)
-query_list script = option_and_then (λ text. option_and_then only_item (items_of text)) (query_braces script)
-
--- the text of the names of a group: a list of names, or a query of such a list in braces
-abbrev pub names_text : List Part → Option (List ℕ)
-names_text (part.Text text ∷ []) = Some text
-names_text (part.Script script ∷ []) = query_list script
-names_text _ = None
-
 -- the places of the clocks of a list of names (Tcl)
 abbrev pub places_in : List Clock → List ℕ → Option (List ℕ)
 places_in clocks text = option_and_then (places_of clocks) (items_of text)
 
--- the places of the clocks of a group
-abbrev pub group_of : List Clock → List Part → Option (List ℕ)
-group_of clocks parts = option_and_then (places_in clocks) (names_text parts)
+-- the place of an object that is a clock, of so many
+abbrev pub clock_place : ℕ → Object → Option ℕ
+clock_place count (object.Clock place) = if nat_lt place count then Some place else None
+clock_place count _ = None
+
+-- the places of objects, where each is a clock
+abbrev pub clock_places : ℕ → List Object → Option (List ℕ)
+clock_places count [] = Some []
+clock_places count (first ∷ objects) =
+    option_and_then (λ place. option_and_then (λ places. Some (place ∷ places)) (clock_places count objects)) (clock_place count first)
+
+-- the places of the clocks of a group: a list of names, or clocks
+abbrev pub group_of : List Clock → Value → Option (List ℕ)
+group_of clocks (value.Text text) = places_in clocks text
+group_of clocks (value.Objects objects) = clock_places (length clocks) objects
 
 -- a place is one of these
 abbrev pub is_among : ℕ → List ℕ → Bool
 is_among place places = list_any (λ p. p == place) places
 
--- some command has one clock in one of its groups and the other clock in the other
+-- so many places from one on that are not in a group
+abbrev pub others_from : List ℕ → ℕ → ℕ → List ℕ
+others_from group place zero = []
+others_from group place (suc more) =
+    if is_among place group then others_from group (place + 1) more else place ∷ others_from group (place + 1) more
+
+-- a group against each of these
+abbrev pub against : List ℕ → List (List ℕ) → List Groups
+against group others = map (λ other. record { first = group; second = other }) others
+
+-- every two of some groups
+abbrev pub every_two : List (List ℕ) → List Groups
+every_two [] = []
+every_two (group ∷ others) = against group others ++ every_two others
+
+-- which groups the groups of a command set against each other, of so many clocks
+abbrev pub set_apart : ℕ → List (List ℕ) → List Groups
+set_apart count (alone ∷ []) = record { first = alone; second = others_from alone 0 count } ∷ []
+set_apart count groups = every_two groups
+
+-- the same of several commands
+abbrev pub all_set_apart : ℕ → List (List (List ℕ)) → List Groups
+all_set_apart count [] = []
+all_set_apart count (groups ∷ commands) = set_apart count groups ++ all_set_apart count commands
+
+-- one clock is in one of two groups that stand against each other, and the other clock in the other
 abbrev pub is_parted : List Groups → ℕ → ℕ → Bool
 is_parted [] i j = false
 is_parted (groups ∷ others) i j =

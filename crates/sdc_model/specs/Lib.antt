@@ -1,3 +1,4 @@
+pub use Rattle.sdc_base.specs.Arithmetic
 pub use Rattle.sdc_base.specs.Channels
 pub use Rattle.sdc_base.specs.Counting
 pub use Rattle.sdc_base.specs.Files
@@ -15,6 +16,7 @@ pub mod Bytes
 pub mod CarriedDelays
 pub mod CarriedExceptions
 pub mod Classes
+pub mod ClockCommands
 pub mod ClockFile
 pub mod ClockGroups
 pub mod ClockIdentity
@@ -72,7 +74,9 @@ pub mod Merge
 pub mod MergeRules
 pub mod MergedMode
 pub mod ModeFiles
+pub mod ModeHost
 pub mod ModeLines
+pub mod ModeMeaning
 pub mod NamedCommands
 pub mod Nodes
 pub mod NotCarried
