@@ -1,17 +1,17 @@
 -- Lines of words that the grammar has, each as it is spelled: they are commands of these words.
-use Rattle.std.proofs.Common.{◌≡◌, ◌<◌, ◌-◌, ◌||◌, ℕ, Bool, false, true, List, [], ◌∷◌, ◌++◌, Option, None, Result, Ok, length, map, take, refl, sym, ap, ◌∙◌, subst, append_assoc, codes, arith}
+use Rattle.std.proofs.Common.{◌≡◌, ◌<◌, ◌||◌, ℕ, Bool, false, true, List, [], ◌∷◌, ◌++◌, None, Result, Ok, length, map, refl, sym, ap, ◌∙◌, subst, append_assoc, codes, arith}
 use Rattle.std.specs.List.{list_all}
 use Rattle.std.proofs.lemmas.Bool.{and_parts}
-use Rattle.std.proofs.lemmas.List.{append-nil, length-append, take_at}
-use Rattle.source_types.specs.declared.commands.Command.{Command}
+use Rattle.std.proofs.lemmas.List.{append-nil, length-append}
 use Rattle.source_types.specs.declared.commands.Word.{Word}
 use Rattle.source_types.specs.declared.kinds.TclKind.{TclKind}
 use Rattle.sdc_model.specs.Bytes.{before, is_end, is_space, line_after}
-use Rattle.sdc_model.specs.Commands.{AreCommands, AreWords, CommandFront, IsCommand, IsFirst, IsWord, IsWordOf, Place, StandsWord, WordFront, ended_command, may_follow, opening}
+use Rattle.sdc_model.specs.Commands.{AreCommands, AreWords, CommandFront, IsCommand, IsFirst, IsWordOf, Place, StandsWord, WordFront, ended_command, may_follow, opening}
 use Rattle.sdc_model.specs.Continued.{behind_gap, from_command, parting}
 use Rattle.sdc_model.specs.Row.{found, stops}
 use Rattle.sdc_model.specs.PrintedLine.{PrintedWord, spelled, words_text, line_text, lines_text}
 use Rattle.sdc_model.specs.PrintedCommands.{AreSpelled, AreSpelledLines, LineIsFirst, LinesAreCommands, word_of, command_of, commands_of}
+use Rattle.sdc_print.proofs.PlainWords.{before_is}
 
 -- the words behind another one, each behind a blank
 abbrev pub more_text : List PrintedWord → List ℕ
@@ -22,10 +22,15 @@ words_text_is : (word : PrintedWord) (words : List PrintedWord) → words_text (
 words_text_is word [] = sym (append-nil (spelled word))
 words_text_is word (next ∷ words) = ap (λ l. spelled word ++ (32 ∷ l)) (words_text_is next words)
 
--- behind a word comes a blank or the newline
-parts_words : (words : List PrintedWord) (rest : List ℕ) → may_follow (more_text words ++ (10 ∷ rest)) ≡ true
-parts_words [] rest = refl
-parts_words (word ∷ words) rest = refl
+-- what stands behind the last word of a command
+record Ends (rest : List ℕ) : Type 0 where
+  follows : may_follow rest ≡ true
+  stands : StandsWord rest (stops (Ok rest))
+
+-- behind a word comes a blank or the end
+parts_words : (words : List PrintedWord) (rest : List ℕ) → Ends rest → may_follow (more_text words ++ rest) ≡ true
+parts_words [] rest e = e.follows
+parts_words (word ∷ words) rest e = refl
 
 gap_blank : (text : List ℕ) → behind_gap false (32 ∷ text) ≡ behind_gap false text
 unfolding behind_gap
@@ -35,32 +40,42 @@ gap_newline : (rest : List ℕ) → behind_gap false (10 ∷ rest) ≡ 10 ∷ re
 unfolding behind_gap
 gap_newline rest = refl
 
+gap_none : behind_gap false [] ≡ []
+unfolding behind_gap
+gap_none = refl
+
 behind_blank : (text : List ℕ) (front : WordFront) → StandsWord text front → StandsWord (32 ∷ text) front
 behind_blank text front w = subst (λ (t : List ℕ). IsWordOf (opening t) t front) (sym (gap_blank text)) w
 
-line_ends : (rest : List ℕ) → StandsWord (10 ∷ rest) (stops (Ok (10 ∷ rest)))
-line_ends rest = subst (λ (t : List ℕ). IsWordOf (opening t) t (stops (Ok (10 ∷ rest)))) (sym (gap_newline rest)) refl
+line_ends : (rest : List ℕ) → Ends (10 ∷ rest)
+line_ends rest = record {
+  follows = refl;
+  stands = subst (λ (t : List ℕ). IsWordOf (opening t) t (stops (Ok (10 ∷ rest)))) (sym (gap_newline rest)) refl;
+}
 
-are_more_words : (words : List PrintedWord) (rest : List ℕ) → AreSpelled words → AreWords (map word_of words) (more_text words ++ (10 ∷ rest)) (Ok (10 ∷ rest))
-are_more_words [] rest s = line_ends rest
-are_more_words (word ∷ words) rest s =
-    let after = more_text words ++ (10 ∷ rest) in (
+text_ends : Ends []
+text_ends = record { follows = refl; stands = subst (λ (t : List ℕ). IsWordOf (opening t) t (stops (Ok []))) (sym gap_none) refl }
+
+are_more_words : (words : List PrintedWord) (rest : List ℕ) → AreSpelled words → Ends rest → AreWords (map word_of words) (more_text words ++ rest) (Ok rest)
+are_more_words [] rest s e = e.stands
+are_more_words (word ∷ words) rest s e =
+    let after = more_text words ++ rest in (
       after,
-      subst (λ (t : List ℕ). StandsWord t (found (word_of word) after)) (sym (ap (λ (l : List ℕ). 32 ∷ l) (append_assoc (spelled word) (more_text words) (10 ∷ rest))))
-          (behind_blank (spelled word ++ after) (found (word_of word) after) (s.0.stands after (parts_words words rest))),
-      are_more_words words rest s.1,
+      subst (λ (t : List ℕ). StandsWord t (found (word_of word) after)) (sym (ap (λ (l : List ℕ). 32 ∷ l) (append_assoc (spelled word) (more_text words) rest)))
+          (behind_blank (spelled word ++ after) (found (word_of word) after) (s.0.stands after (parts_words words rest e))),
+      are_more_words words rest s.1 e,
     )
 
--- a line is its first word, what comes behind it, and the newline
-line_is : (word : PrintedWord) (words : List PrintedWord) (rest : List ℕ) → words_text (word ∷ words) ++ (10 ∷ rest) ≡ spelled word ++ (more_text words ++ (10 ∷ rest))
-line_is word words rest = ap (λ (l : List ℕ). l ++ (10 ∷ rest)) (words_text_is word words) ∙ append_assoc (spelled word) (more_text words) (10 ∷ rest)
+-- a line is its first word, what comes behind it, and its end
+line_is : (word : PrintedWord) (words : List PrintedWord) (rest : List ℕ) → words_text (word ∷ words) ++ rest ≡ spelled word ++ (more_text words ++ rest)
+line_is word words rest = ap (λ (l : List ℕ). l ++ rest) (words_text_is word words) ∙ append_assoc (spelled word) (more_text words) rest
 
-are_words : (word : PrintedWord) (words : List PrintedWord) (rest : List ℕ) → AreSpelled (word ∷ words) → AreWords (map word_of (word ∷ words)) (words_text (word ∷ words) ++ (10 ∷ rest)) (Ok (10 ∷ rest))
-are_words word words rest s =
-    let after = more_text words ++ (10 ∷ rest) in (
+are_words : (word : PrintedWord) (words : List PrintedWord) (rest : List ℕ) → AreSpelled (word ∷ words) → Ends rest → AreWords (map word_of (word ∷ words)) (words_text (word ∷ words) ++ rest) (Ok rest)
+are_words word words rest s e =
+    let after = more_text words ++ rest in (
       after,
-      subst (λ (t : List ℕ). StandsWord t (found (word_of word) after)) (sym (line_is word words rest)) (s.0.stands after (parts_words words rest)),
-      are_more_words words rest s.1,
+      subst (λ (t : List ℕ). StandsWord t (found (word_of word) after)) (sym (line_is word words rest)) (s.0.stands after (parts_words words rest e)),
+      are_more_words words rest s.1 e,
     )
 
 -- what parts commands is passed over
@@ -80,36 +95,36 @@ from_skipped [] text p = refl
 from_skipped (b ∷ bs) text p =
     let parts = and_parts (is_parting b) (list_all is_parting bs) p in passed b (bs ++ text) parts.0 ∙ from_skipped bs text parts.1
 
-before_is : (text rest : List ℕ) → before (text ++ rest) rest ≡ text
-before_is text rest =
-    let n : length (text ++ rest) - length rest ≡ length text = omega (arith, length-append text rest) in
-    ap (λ (k : ℕ). take k (text ++ rest)) n ∙ take_at text rest (length text) refl
-
 command_here : (text : List ℕ) (place : Place) (front : CommandFront) (words : List Word) (end : Result (List ℕ) TclKind) → 0 < length text → AreWords words place.text end → front ≡ ended_command place words end → IsCommand text place front
 command_here [] place front words end some row e = absurd (omega arith)
 command_here (b ∷ bs) place front words end some row e = (words, end, row, e)
 
--- a line behind what parts commands, and before other text
-is_first : (skipped : List ℕ) (words : List PrintedWord) (rest : List ℕ) (line : ℕ) → list_all is_parting skipped ≡ true → 0 < length words → AreSpelled words → IsFirst (skipped ++ (line_text words ++ rest)) line (command_of (line_after skipped line) words) (10 ∷ rest) (line_after (words_text words) (line_after skipped line))
-is_first skipped [] rest line p h s = absurd (omega arith)
-is_first skipped (word ∷ words) rest line p h s =
-    let body : List ℕ = words_text (word ∷ words) ++ (10 ∷ rest) in
-    let after : List ℕ = more_text words ++ (10 ∷ rest) in
+-- words behind what parts commands, and before their end
+first_of : (skipped : List ℕ) (words : List PrintedWord) (rest : List ℕ) (line : ℕ) → list_all is_parting skipped ≡ true → 0 < length words → AreSpelled words → Ends rest
+    → IsFirst (skipped ++ (words_text words ++ rest)) line (command_of (line_after skipped line) words) rest (line_after (words_text words) (line_after skipped line))
+first_of skipped [] rest line p h s e = absurd (omega arith)
+first_of skipped (word ∷ words) rest line p h s e =
+    let body : List ℕ = words_text (word ∷ words) ++ rest in
+    let after : List ℕ = more_text words ++ rest in
     let begin : ℕ = line_after skipped line in
-    let front : CommandFront = found (command_of begin (word ∷ words)) (record { text = 10 ∷ rest; line = line_after (words_text (word ∷ words)) begin }) in
-    let whole : skipped ++ (line_text (word ∷ words) ++ rest) ≡ skipped ++ body = ap (λ (l : List ℕ). skipped ++ l) (append_assoc (words_text (word ∷ words)) (codes "\n") rest) in
+    let front : CommandFront = found (command_of begin (word ∷ words)) (record { text = rest; line = line_after (words_text (word ∷ words)) begin }) in
     let starts : from_command parting (skipped ++ body) ≡ body =
-    from_skipped skipped body p ∙ (ap (from_command parting) (line_is word words rest) ∙ (s.0.first after (parts_words words rest) ∙ sym (line_is word words rest))) in
+    from_skipped skipped body p ∙ (ap (from_command parting) (line_is word words rest) ∙ (s.0.first after (parts_words words rest e) ∙ sym (line_is word words rest))) in
     let long : 0 < length body = omega (arith, ap length (line_is word words rest), length-append (spelled word) after, s.0.some) in
     let place : Place = record { text = body; line = begin } in
     let here : IsCommand body place front =
-    command_here body place front (map word_of (word ∷ words)) (Ok (10 ∷ rest)) long (are_words word words rest s)
-    (ap (λ (t : List ℕ). found (command_of begin (word ∷ words)) (record { text = 10 ∷ rest; line = line_after t begin })) (sym (before_is (words_text (word ∷ words)) (10 ∷ rest)))) in
+    command_here body place front (map word_of (word ∷ words)) (Ok rest) long (are_words word words rest s e)
+    (ap (λ (t : List ℕ). found (command_of begin (word ∷ words)) (record { text = rest; line = line_after t begin })) (sym (before_is (words_text (word ∷ words)) rest))) in
     let lined : IsCommand body (record { text = body; line = line_after (before (skipped ++ body) body) line }) front =
     subst (λ (t : List ℕ). IsCommand body (record { text = body; line = line_after t line }) front) (sym (before_is skipped body)) here in
-    let placed : IsFirst (skipped ++ body) line (command_of begin (word ∷ words)) (10 ∷ rest) (line_after (words_text (word ∷ words)) begin) =
-    subst (λ (t : List ℕ). IsCommand t (record { text = t; line = line_after (before (skipped ++ body) t) line }) front) (sym starts) lined in
-    subst (λ (t : List ℕ). IsFirst t line (command_of begin (word ∷ words)) (10 ∷ rest) (line_after (words_text (word ∷ words)) begin)) (sym whole) placed
+    subst (λ (t : List ℕ). IsCommand t (record { text = t; line = line_after (before (skipped ++ body) t) line }) front) (sym starts) lined
+
+-- a line behind what parts commands, and before other text
+is_first : (skipped : List ℕ) (words : List PrintedWord) (rest : List ℕ) (line : ℕ) → list_all is_parting skipped ≡ true → 0 < length words → AreSpelled words → IsFirst (skipped ++ (line_text words ++ rest)) line (command_of (line_after skipped line) words) (10 ∷ rest) (line_after (words_text words) (line_after skipped line))
+is_first skipped words rest line p h s =
+    let begin : ℕ = line_after skipped line in
+    let whole : skipped ++ (line_text words ++ rest) ≡ skipped ++ (words_text words ++ (10 ∷ rest)) = ap (λ (l : List ℕ). skipped ++ l) (append_assoc (words_text words) (codes "\n") rest) in
+    subst (λ (t : List ℕ). IsFirst t line (command_of begin words) (10 ∷ rest) (line_after (words_text words) begin)) (sym whole) (first_of skipped words (10 ∷ rest) line p h s (line_ends rest))
 
 pub line_is_first : (words : List PrintedWord) → LineIsFirst words
 line_is_first words rest line h s = is_first [] words rest line refl h s
@@ -137,3 +152,13 @@ are_commands (words ∷ lines) skipped line p s =
 
 pub lines_are_commands : (lines : List (List PrintedWord)) → LinesAreCommands lines
 lines_are_commands lines line s = are_commands lines [] line refl s
+
+-- words alone are the one command of their text
+pub words_are_command : (words : List PrintedWord) (line : ℕ) → 0 < length words → AreSpelled words → AreCommands (command_of line words ∷ []) (words_text words) line
+words_are_command words line h s =
+    let behind : ℕ = line_after (words_text words) line in
+    let whole : words_text words ++ [] ≡ words_text words = append-nil (words_text words) in (
+      record { text = []; line = behind },
+      subst (λ (t : List ℕ). IsFirst t line (command_of line words) [] behind) whole (first_of [] words [] line refl h s text_ends),
+      nothing_left [] behind refl,
+    )

@@ -1,5 +1,5 @@
 -- Printed files are text, and have just the commands of their lines: each word is one of the grammar.
-use Rattle.std.proofs.Common.{◌≡◌, ◌<◌, ◌&&◌, ℕ, Bool, true, List, [], ◌∷◌, ◌++◌, length, refl, sym, ◌∙◌, ap, codes, arith, lit<}
+use Rattle.std.proofs.Common.{◌≡◌, ◌<◌, ◌&&◌, ℕ, Bool, true, List, [], ◌∷◌, ◌++◌, length, refl, ◌∙◌, ap, codes, arith, lit<}
 use Rattle.std.proofs.lemmas.Bool.{and_parts}
 use Rattle.std.proofs.lemmas.Bool.Decides.{nat_tests}
 use Rattle.std.proofs.lemmas.List.Folds.{list_all-append}
@@ -10,7 +10,8 @@ use Rattle.std.specs.Str.{IsAscii, IsUtf8}
 use Rattle.sdc_model.specs.Commands.{IsWord}
 use Rattle.sdc_model.specs.PrintedCommands.{AreSpelled, AreSpelledLines, word_of}
 use Rattle.sdc_model.specs.PrintedLine.{PrintedWord, bare, braced, list_word, query_word, spelled, spaced, words_text, line_text, lines_text}
-use Rattle.sdc_print.proofs.PlainWords.{bare_is_word, braced_is_word, is_braced, is_plain, query_is_word}
+use Rattle.sdc_print.proofs.PlainWords.{bare_is_word, braced_is_word, is_braced, is_plain}
+use Rattle.sdc_print.proofs.QueryWords.{query_is_word}
 
 plain_ascii : (b : ℕ) → is_plain b ≡ true → b < 128
 plain_ascii b p = grind (arith, nat_tests)

@@ -1,21 +1,41 @@
 -- The pairs that the groups of a mode's lines make exclusive are the mode's pairs, in order.
-use Rattle.std.proofs.Common.{◌≡◌, ◌<◌, ◌≤◌, ◌+◌, ◌&&◌, ◌||◌, ℕ, zero, suc, Bool, true, false, List, [], ◌∷◌, ◌++◌, length, map, drop, nat_eq, refl, sym, ◌∙◌, ap, subst, inl, inr, arith}
+use Rattle.std.proofs.Common.{◌≡◌, ◌<◌, ◌≤◌, ◌+◌, ◌&&◌, ◌||◌, ◌⊎◌, ℕ, zero, suc, Bool, true, false, List, [], ◌∷◌, ◌++◌, length, map, drop, nat_eq, refl, sym, ◌∙◌, ap, subst, inl, inr, arith}
 use Rattle.std.proofs.lemmas.Bool.{cases_eq, eq-eqb, ne_eqb}
 use Rattle.timing_types.specs.declared.clocks.Clock.{Clock}
 use Rattle.timing_types.specs.declared.clocks.Pair.{Pair}
-use Rattle.sdc_model.specs.ClockGroups.{Groups, exclusive_pairs, is_among, is_parted, pairs_from, pairs_with}
+use Rattle.sdc_model.specs.ClockFile.{pairs_apart}
+use Rattle.sdc_model.specs.ClockGroups.{Groups, all_set_apart, exclusive_pairs, is_among, is_parted, pairs_from, pairs_with}
 use Rattle.sdc_model.specs.PrintedFile.{ArePairs, IsBehind, exclusive_to}
 use Rattle.sdc_print.specs.Runs.{run_length}
 use Rattle.sdc_print.proofs.RunFacts.{AreFrom, TakesRun, all_from_zero, are_behind, exclusive_other, exclusive_same, later_without_run, none_from, run_none, run_other, run_same, takes_run}
 
--- the groups of a line, and of the lines from a place on
-abbrev pub groups_of : ℕ → List ℕ → List Groups
+-- the groups that a line says, and those that the lines from a place on say
+abbrev pub said_by : ℕ → List ℕ → List (List (List ℕ))
+said_by place [] = []
+said_by place (other ∷ others) = ((place ∷ []) ∷ (other ∷ others) ∷ []) ∷ []
+
+abbrev pub said_from : List Pair → ℕ → List Clock → List (List (List ℕ))
+said_from pairs place [] = []
+said_from pairs place (clock ∷ clocks) = said_by place (exclusive_to place pairs) ++ said_from pairs (suc place) clocks
+
+-- which groups these set against each other
+abbrev groups_of : ℕ → List ℕ → List Groups
 groups_of place [] = []
 groups_of place (other ∷ others) = record { first = place ∷ []; second = other ∷ others } ∷ []
 
-abbrev pub groups_from : List Pair → ℕ → List Clock → List Groups
+abbrev groups_from : List Pair → ℕ → List Clock → List Groups
 groups_from pairs place [] = []
 groups_from pairs place (clock ∷ clocks) = groups_of place (exclusive_to place pairs) ++ groups_from pairs (suc place) clocks
+
+line_apart : (count place : ℕ) (others : List ℕ) (more : List (List (List ℕ))) → all_set_apart count (said_by place others ++ more) ≡ groups_of place others ++ all_set_apart count more
+line_apart count place [] more = refl
+line_apart count place (other ∷ others) more = refl
+
+all_apart : (count : ℕ) (pairs : List Pair) (place : ℕ) (clocks : List Clock) → all_set_apart count (said_from pairs place clocks) ≡ groups_from pairs place clocks
+all_apart count pairs place [] = refl
+all_apart count pairs place (clock ∷ clocks) =
+    line_apart count place (exclusive_to place pairs) (said_from pairs (suc place) clocks)
+    ∙ ap (λ (gs : List Groups). groups_of place (exclusive_to place pairs) ++ gs) (all_apart count pairs (suc place) clocks)
 
 -- places above one, below a number
 abbrev pub AreWithin : ℕ → ℕ → List ℕ → Type 0
@@ -72,7 +92,7 @@ none_before pairs count place i j (clock ∷ clocks) h k o =
     ∙ (ap (λ (b : Bool). (b && is_among j (exclusive_to place pairs)) || is_parted (groups_from pairs (suc place) clocks) i j) (ne_eqb place i (λ e. omega (arith, e, k)))
     ∙ none_before pairs count (suc place) i j clocks h (omega arith) o)
 
-pub parted_is : (pairs : List Pair) (count place i j : ℕ) (clocks : List Clock) → i < j → place ≤ i → i < place + length clocks → ArePairs count pairs
+parted_is : (pairs : List Pair) (count place i j : ℕ) (clocks : List Clock) → i < j → place ≤ i → i < place + length clocks → ArePairs count pairs
     → is_parted (groups_from pairs place clocks) i j ≡ is_among j (exclusive_to i pairs)
 parted_is pairs count place i j [] h k l o = absurd (omega arith)
 parted_is pairs count place i j (clock ∷ clocks) h k l o =
@@ -128,29 +148,50 @@ row_is groups i j (suc more) end (place ∷ places) e p r =
           rw none (row_is groups i (j + 1) more end (place ∷ places) (omega arith) (λ b h. p b (omega arith)) (omega (arith, above), r.1, r.2))
     ]
 
--- the later clocks of one rise, where no pair has an earlier first clock
-abbrev pub BeginsAt : ℕ → ℕ → List Pair → Type 0
-BeginsAt place low [] = Unit {0}
-BeginsAt place low (pair ∷ pairs) = pair.first ≡ place → low ≤ pair.second
+-- the later clocks of one stand from a place on
+abbrev AreAbove : ℕ → ℕ → List Pair → Type 0
+AreAbove place low [] = Unit {0}
+AreAbove place low (pair ∷ pairs) = (pair.first ≡ place → low ≤ pair.second) × AreAbove place low pairs
 
-begins_behind : (place : ℕ) (pair : Pair) (pairs : List Pair) → pair.first ≡ place → IsBehind pair pairs → BeginsAt place (suc pair.second) pairs
-begins_behind place pair [] e b = tt
-begins_behind place pair (next ∷ pairs) e b = λ f. elim b [ inl l ↦ absurd (omega (arith, e, f, l)) | inr r ↦ omega (arith, r.1) ]
+all_above : (count place : ℕ) (pairs : List Pair) → ArePairs count pairs → AreAbove place (suc place) pairs
+all_above count place [] o = tt
+all_above count place (pair ∷ pairs) o = ((λ e. omega (arith, e, o.0)), all_above count place pairs o.3)
 
-begins_above : (count place : ℕ) (pairs : List Pair) → ArePairs count pairs → BeginsAt place (place + 1) pairs
-begins_above count place [] o = tt
-begins_above count place (pair ∷ pairs) o = λ e. omega (arith, e, o.0)
+-- the first pair of some has a later first clock, or the same one and a later second one
+abbrev IsLater : ℕ → ℕ → Pair → Type 0
+IsLater place low pair = (place < pair.first) ⊎ ((place ≡ pair.first) × (low ≤ pair.second))
 
-others_rise : (count place low : ℕ) (pairs : List Pair) → ArePairs count pairs → AreFrom place pairs → BeginsAt place low pairs → Rises low count (exclusive_to place pairs)
-others_rise count place low [] o f b = tt
-others_rise count place low (pair ∷ pairs) o f b =
+next_later : (place low : ℕ) (pair next : Pair) (pairs : List Pair) → IsLater place low pair → IsBehind pair (next ∷ pairs) → IsLater place (suc low) next
+next_later place low pair next pairs (inl l) (inl b) = inl (omega (arith, l, b))
+next_later place low pair next pairs (inl l) (inr b) = inl (omega (arith, l, b.0))
+next_later place low pair next pairs (inr l) (inl b) = inl (omega (arith, l.0, b))
+next_later place low pair next pairs (inr l) (inr b) = inr (omega (arith, l.0, b.0), omega (arith, l.1, b.1))
+
+later_above : (place low : ℕ) (pair : Pair) → IsLater place low pair → pair.first ≡ place → low ≤ pair.second
+later_above place low pair (inl l) e = absurd (omega (arith, l, e))
+later_above place low pair (inr l) e = l.1
+
+above_behind : (count place low : ℕ) (pair : Pair) (pairs : List Pair) → IsLater place low pair → IsBehind pair pairs → ArePairs count pairs → AreAbove place (suc low) pairs
+above_behind count place low pair [] l b o = tt
+above_behind count place low pair (next ∷ pairs) l b o =
+    let later : IsLater place (suc low) next = next_later place low pair next pairs l b in
+    let same : IsLater place low next = elim later [ inl n ↦ inl n | inr n ↦ inr (n.0, omega (arith, n.1)) ] in
+    (later_above place (suc low) next later, above_behind count place low next pairs same o.2 o.3)
+
+-- the later clocks of one rise
+rise_from : (count place low : ℕ) (pairs : List Pair) → ArePairs count pairs → AreAbove place low pairs → Rises low count (exclusive_to place pairs)
+rise_from count place low [] o a = tt
+rise_from count place low (pair ∷ pairs) o a =
     elim (cases_eq pair.first place) [
       | inl e ↦
-          let rises : Rises low count (pair.second ∷ exclusive_to place pairs) =
-          (b e, o.1, others_rise count place (suc pair.second) pairs o.3 f.1 (begins_behind place pair pairs e o.2)) in
+          let behind : AreAbove place (suc pair.second) pairs = above_behind count place pair.second pair pairs (inr (sym e, omega arith)) o.2 o.3 in
+          let rises : Rises low count (pair.second ∷ exclusive_to place pairs) = (a.0 e, o.1, rise_from count place (suc pair.second) pairs o.3 behind) in
           subst (Rises low count) (sym (exclusive_same place pair pairs e)) rises
-      | inr n ↦ subst (Rises low count) (sym (exclusive_other place pair pairs n ∙ none_from place pairs (are_behind count pair pairs (suc place) (omega (arith, n, f.0)) o.2 o.3))) tt
+      | inr n ↦ subst (Rises low count) (sym (exclusive_other place pair pairs n)) (rise_from count place low pairs o.3 a.1)
     ]
+
+pub others_rise : (count place : ℕ) (pairs : List Pair) → ArePairs count pairs → Rises (suc place) count (exclusive_to place pairs)
+others_rise count place pairs o = rise_from count place (suc place) pairs o (all_above count place pairs o)
 
 -- pairs are the run of a place and those behind it
 run_and_rest : (count place : ℕ) (pairs : List Pair) → ArePairs count pairs → AreFrom place pairs → pairs ≡ pairs_of place (exclusive_to place pairs) ++ drop (run_length place pairs) pairs
@@ -179,9 +220,9 @@ pairs_are groups count i zero (pair ∷ pairs) e o f p = absurd (omega (arith, o
 pairs_are groups count i (suc more) pairs e o f p =
     let rest = drop (run_length i pairs) pairs in
     let taken : TakesRun count i (run_length i pairs) pairs = takes_run count i pairs o f in
-    let row = row_is groups i (i + 1) more count (exclusive_to i pairs) (omega arith) (λ b h. p i b (omega arith) (omega arith) (omega arith))
-    (others_rise count i (i + 1) pairs o f (begins_above count i pairs o)) in
     let next : suc i ≡ i + 1 = omega arith in
+    let row = row_is groups i (i + 1) more count (exclusive_to i pairs) (omega arith) (λ b h. p i b (omega arith) (omega arith) (omega arith))
+    (subst (λ (n : ℕ). Rises n count (exclusive_to i pairs)) next (others_rise count i pairs o)) in
     let later : (a b : ℕ) → i + 1 ≤ a → a < count → a < b → is_parted groups a b ≡ is_among b (exclusive_to a rest) =
     λ a b h k l. p a b (omega arith) k l ∙ ap (is_among b) (later_without_run i a pairs (omega arith)) in
     let others = pairs_are groups count (i + 1) more rest (omega arith) taken.order (subst (λ (n : ℕ). AreFrom n rest) next taken.above) later in
@@ -189,7 +230,8 @@ pairs_are groups count i (suc more) pairs e o f p =
     ∙ (ap (λ (ps : List Pair). pairs_of i (exclusive_to i pairs) ++ ps) others ∙ sym (run_and_rest count i pairs o f))
 
 -- the exclusive pairs of the groups of all lines
-pub exclusive_are : (clocks : List Clock) (pairs : List Pair) → ArePairs (length clocks) pairs → exclusive_pairs (groups_from pairs 0 clocks) (length clocks) ≡ pairs
+pub exclusive_are : (clocks : List Clock) (pairs : List Pair) → ArePairs (length clocks) pairs → pairs_apart (length clocks) (said_from pairs 0 clocks) ≡ pairs
 exclusive_are clocks pairs o =
-    pairs_are (groups_from pairs 0 clocks) (length clocks) 0 (length clocks) pairs (omega arith) o (all_from_zero pairs)
+    ap (λ (groups : List Groups). exclusive_pairs groups (length clocks)) (all_apart (length clocks) pairs 0 clocks)
+    ∙ pairs_are (groups_from pairs 0 clocks) (length clocks) 0 (length clocks) pairs (omega arith) o (all_from_zero pairs)
     (λ a b h k l. parted_is pairs (length clocks) 0 a b clocks l h (omega arith) o)

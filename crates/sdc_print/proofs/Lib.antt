@@ -8,9 +8,13 @@ pub mod GroupLines
 pub mod GroupLengths
 pub mod GroupPairs
 pub mod LineFacts
+pub mod LineRuns
 pub mod ListBack
+pub mod NamePlaces
 pub mod PlainWords
 pub mod PrintableFacts
 pub mod PrintedFacts
+pub mod QueryRuns
+pub mod QueryWords
 pub mod RunFacts
 pub mod WaveText

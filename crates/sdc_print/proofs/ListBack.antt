@@ -1,21 +1,17 @@
--- Lists that are printed, read again: names and times with a blank between each two, and a list in braces.
-use Rattle.std.proofs.Common.{◌≡◌, ◌<◌, ◌≤◌, ◌+◌, ◌==◌, ◌&&◌, ◌++◌, ℕ, zero, suc, true, false, List, [], ◌∷◌, Option, Some, Ok, Result, length, length-append, refl, sym, ap, ◌∙◌, arith, append-nil}
+-- Lists that are printed, read again: names and times with a blank between each two.
+use Rattle.std.proofs.Common.{◌≡◌, ◌≤◌, ◌++◌, ℕ, zero, suc, true, false, List, [], ◌∷◌, Some, Ok, length, length-append, refl, sym, ap, ◌∙◌, arith, append-nil}
 use Rattle.std.proofs.lemmas.Bool.{and_parts}
 use Rattle.std.proofs.lemmas.Bool.Decides.{nat_tests}
 use Rattle.std.specs.List.{list_all}
 use Rattle.std.specs.Result.{result_ok}
-use Rattle.source_types.specs.declared.kinds.TclKind.{TclKind}
-use Rattle.sdc_model.specs.Bytes.{before}
 use Rattle.sdc_model.specs.Commands.{may_follow}
-use Rattle.sdc_model.specs.Continued.{continues}
-use Rattle.sdc_model.specs.Enclosed.{behind_brace}
-use Rattle.sdc_model.specs.ListItems.{ItemFront, behind_parting, ended_bare_item, ended_closed_item, form_by, item_piece_at, parts_items}
-use Rattle.sdc_model.specs.ListReading.{ItemPieces, braced_item, by_item, by_piece, item_at, item_of, items_in, items_of, list_of, pieces_in, pieces_of, with_item}
+use Rattle.sdc_model.specs.ListItems.{ItemFront, behind_parting, ended_bare_item, form_by, item_piece_at, parts_items}
+use Rattle.sdc_model.specs.ListReading.{ItemPieces, by_item, by_piece, item_at, item_of, items_in, items_of, list_of, pieces_in, with_item}
 use Rattle.sdc_model.specs.Pieces as grammar
 use Rattle.sdc_model.specs.PrintedLine.{spaced}
 use Rattle.sdc_model.specs.Row.{found, stops}
 use Rattle.sdc_print.proofs.FileText.{AreItems, IsItem}
-use Rattle.sdc_print.proofs.PlainWords.{Plain, all_closed, before_is, bare_run, inner_run, inside_all, is_braced, is_plain, plain_byte}
+use Rattle.sdc_print.proofs.PlainWords.{Plain, bare_run, is_plain, plain_byte}
 
 -- ---- a bare item
 
@@ -96,49 +92,3 @@ whole_spaced texts a = spaced_items (length (spaced texts)) texts a (few_items t
 
 pub list_spaced : (texts : List (List ℕ)) → AreItems texts → items_of (spaced texts) ≡ Some texts
 list_spaced texts a = ap result_ok (whole_spaced texts a)
-
--- ---- a list in braces
-
-pieces_end : (n : ℕ) → pieces_in (suc n) grammar.braced [] ≡ record { pieces = []; end = Ok [] }
-unfolding item_piece_at
-pieces_end n = refl
-
-braced_piece : (b : ℕ) (bs : List ℕ) → (b == 92) ≡ false → item_piece_at grammar.braced (b ∷ bs) ≡ grammar.with_run grammar.braced (b ∷ []) bs
-unfolding item_piece_at
-braced_piece b bs p = rw p refl
-
-no_backslash : (b : ℕ) → is_braced b ≡ true → (b == 92) ≡ false
-no_backslash b p = grind (arith, nat_tests)
-
-abbrev ended_closed : ItemPieces → ItemFront
-ended_closed read = ended_closed_item read.pieces (Ok [])
-
-inner_item : (text : List ℕ) → list_all is_braced text ≡ true → ended_closed (pieces_of grammar.braced text) ≡ found text []
-inner_item [] h = ap ended_closed (pieces_end 0)
-inner_item (b ∷ bs) h =
-    let parts = and_parts (is_braced b) (list_all is_braced bs) h in
-    let n : ℕ = length bs in
-    ap (λ (f : grammar.PieceFront). ended_closed (by_piece f (pieces_in (suc n) grammar.braced))) (braced_piece b bs (no_backslash b parts.0) ∙ inner_run b bs parts.1)
-    ∙ (ap (λ (read : ItemPieces). ended_closed (record { pieces = grammar.text (b ∷ bs) ∷ read.pieces; end = read.end })) (pieces_end n)
-    ∙ ap (λ (t : List ℕ). found t []) (append-nil (b ∷ bs)))
-
-closes : (text : List ℕ) → list_all is_braced text ≡ true → behind_brace (text ++ 125 ∷ []) ≡ Some []
-closes text h = inside_all text [] [] false h ∙ all_closed []
-
-brace_start : (bs : List ℕ) → behind_parting (123 ∷ bs) ≡ 123 ∷ bs
-unfolding behind_parting
-brace_start bs = refl
-
-whole_braced : (text : List ℕ) → list_all is_braced text ≡ true → list_of (123 ∷ (text ++ 125 ∷ [])) ≡ Ok (text ∷ [])
-unfolding list_of
-whole_braced text h =
-    let bs : List ℕ = text ++ 125 ∷ [] in
-    let n : ℕ = length (123 ∷ bs) in
-    ap (λ (place : List ℕ). by_item (item_at place) (items_in n)) (brace_start bs)
-    ∙ (ap (λ (o : Option (List ℕ)). by_item (braced_item bs o) (items_in n)) (closes text h)
-    ∙ (ap (λ (inner : List ℕ). by_item (ended_closed (pieces_of grammar.braced inner)) (items_in n)) (before_is text (125 ∷ []))
-    ∙ (ap (λ (f : ItemFront). by_item f (items_in n)) (inner_item text h) ∙ ap (with_item text) (none_left (length bs)))))
-
--- a list in braces is one item
-pub list_braced : (text : List ℕ) → list_all is_braced text ≡ true → items_of (123 ∷ (text ++ 125 ∷ [])) ≡ Some (text ∷ [])
-list_braced text h = ap result_ok (whole_braced text h)

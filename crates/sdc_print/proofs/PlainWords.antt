@@ -1,7 +1,7 @@
--- Words of the grammar that are printed: bare ones of plain bytes, lists of them in braces, and queries in brackets.
-use Rattle.std.proofs.Common.{◌≡◌, ◌<◌, ◌≤◌, ◌+◌, ◌-◌, ◌==◌, ◌++◌, ◌||◌, ◌&&◌, inl, inr, ◌⊎◌, ℕ, Bool, true, false, not, List, [], ◌∷◌, Option, Some, None, Result, Ok, Err, drop, take, length, if◌then◌else◌, codes, refl, sym, ap, subst, ◌∙◌, arith, append_assoc}
+-- Words of the grammar that are printed: bare ones of plain bytes, and lists of them in braces.
+use Rattle.std.proofs.Common.{◌≡◌, ◌<◌, ◌-◌, ◌==◌, ◌++◌, ◌||◌, ◌&&◌, inl, inr, ℕ, Bool, true, false, List, [], ◌∷◌, Some, Ok, take, length, refl, sym, ap, subst, ◌∙◌, arith, append_assoc}
 use Rattle.std.specs.List.{list_all}
-use Rattle.std.proofs.lemmas.Bool.{cases_Bool, both_ways, and_parts, not_from_false}
+use Rattle.std.proofs.lemmas.Bool.{cases_Bool, both_ways, and_parts}
 use Rattle.std.proofs.lemmas.Bool.Decides.{nat_tests}
 use Rattle.std.proofs.lemmas.List.{length-append, take_at, append-nil}
 use Rattle.source_types.specs.declared.commands.Part.TheVariants as part
@@ -9,7 +9,7 @@ use Rattle.source_types.specs.declared.commands.Word.{Word}
 use Rattle.sdc_model.specs.Bytes.{before, behind, front, is_end, is_name_byte, is_space, leads_word}
 use Rattle.sdc_model.specs.Commands.{ArePieces, IsBare, IsBraced, IsWord, IsWordOf, StandsWord, bare_opens, ended_closed, may_follow, opening}
 use Rattle.sdc_model.specs.Continued.{behind_gap, continues, from_command, parting}
-use Rattle.sdc_model.specs.Enclosed.{Open, behind_brace, behind_bracket, behind_open, brace, bracket}
+use Rattle.sdc_model.specs.Enclosed.{Open, behind_brace, behind_open, brace}
 use Rattle.sdc_model.specs.Pieces as grammar
 use Rattle.sdc_model.specs.Row.{found, stops}
 
@@ -54,7 +54,7 @@ continued_stops : (rest : List ℕ) → continues rest ≡ true → grammar.behi
 continued_stops [] h = absurd (both_ways false refl h)
 continued_stops (b ∷ bs) h = rw h refl
 
-follow_stops : (rest : List ℕ) → may_follow rest ≡ true → grammar.piece_at grammar.bare rest ≡ stops (Ok rest)
+pub follow_stops : (rest : List ℕ) → may_follow rest ≡ true → grammar.piece_at grammar.bare rest ≡ stops (Ok rest)
 unfolding grammar.piece_at
 follow_stops [] h = refl
 follow_stops (b ∷ bs) h = elim (cases_Bool (is_space b || is_end b)) [
@@ -190,7 +190,7 @@ inside_all (b ∷ bs) rest outer begins h =
     let parts = and_parts (is_braced b) (list_all is_braced bs) h in
     inside_step b (bs ++ 125 ∷ rest) outer begins (inside_byte b parts.0) ∙ inside_all bs rest outer (leads_word b) parts.1
 
-pub all_closed : (rest : List ℕ) → behind_open [] false false rest ≡ Some rest
+all_closed : (rest : List ℕ) → behind_open [] false false rest ≡ Some rest
 unfolding behind_open
 all_closed rest = refl
 
@@ -226,7 +226,7 @@ unfolding grammar.piece_at
 first b bs p = rw p.backslash refl
 
 -- a run of bytes that stand in braces here ends where the text does
-pub inner_run : (b : ℕ) (bs : List ℕ) → list_all is_braced bs ≡ true → grammar.with_run grammar.braced (b ∷ []) bs ≡ found (grammar.text (b ∷ bs)) []
+inner_run : (b : ℕ) (bs : List ℕ) → list_all is_braced bs ≡ true → grammar.with_run grammar.braced (b ∷ []) bs ≡ found (grammar.text (b ∷ bs)) []
 inner_run b bs h =
     let self = weaker_all is_braced (grammar.is_itself grammar.braced) braced_itself bs h in
     ap (λ (t : List ℕ). found (grammar.text (b ∷ t)) (behind (grammar.is_itself grammar.braced) bs)) (whole_front bs self)
@@ -263,68 +263,4 @@ braced_is_word text h = record {
   some = omega arith;
   first = λ rest follows. braced_first ((text ++ 125 ∷ []) ++ rest);
   stands = λ rest follows. subst (λ (t : List ℕ). StandsWord t (found (text_word text) rest)) (sym (braced_text text rest)) (braced_stands text rest h follows);
-}
-
--- ---- a query
-
--- `get_clocks` and a blank
-abbrev query_front : List ℕ
-query_front = codes "get_clocks "
-
-query_passed : (rest : List ℕ) → behind_bracket (query_front ++ 123 ∷ rest) ≡ behind_open (brace ∷ (bracket ∷ [])) false false rest
-unfolding behind_open
-query_passed rest = refl
-
-bracket_close : (rest : List ℕ) → behind_open (bracket ∷ []) false false (93 ∷ rest) ≡ Some rest
-unfolding behind_open
-bracket_close rest = refl
-
--- the script of a query of names
-abbrev pub query_script : List ℕ → List ℕ
-query_script names = query_front ++ 123 ∷ (names ++ 125 ∷ [])
-
-query_text : (names rest : List ℕ) → query_script names ++ 93 ∷ rest ≡ query_front ++ 123 ∷ (names ++ 125 ∷ (93 ∷ rest))
-query_text names rest =
-    append_assoc query_front (123 ∷ (names ++ 125 ∷ [])) (93 ∷ rest) ∙ ap (λ (t : List ℕ). query_front ++ 123 ∷ t) (append_assoc names (125 ∷ []) (93 ∷ rest))
-
-query_closes : (names rest : List ℕ) → list_all is_braced names ≡ true → behind_bracket (query_script names ++ 93 ∷ rest) ≡ Some rest
-query_closes names rest h =
-    ap behind_bracket (query_text names rest)
-    ∙ (query_passed (names ++ 125 ∷ (93 ∷ rest)) ∙ (inside_all names (93 ∷ rest) (bracket ∷ []) false h ∙ bracket_close rest))
-
-bracket_piece : (bs : List ℕ) → grammar.piece_at grammar.bare (91 ∷ bs) ≡ grammar.behind_opening bs (behind_bracket bs)
-unfolding grammar.piece_at
-bracket_piece bs = refl
-
-abbrev pub script_word : List ℕ → Word
-script_word script = record { parts = part.Script script ∷ [] }
-
-query_piece : (names rest : List ℕ) → list_all is_braced names ≡ true → grammar.piece_at grammar.bare (91 ∷ (query_script names ++ 93 ∷ rest)) ≡ found (grammar.other (part.Script (query_script names))) rest
-query_piece names rest h =
-    bracket_piece (query_script names ++ 93 ∷ rest)
-    ∙ (ap (grammar.behind_opening (query_script names ++ 93 ∷ rest)) (query_closes names rest h)
-    ∙ ap (λ (t : List ℕ). found (grammar.other (part.Script t)) rest) (before_is (query_script names) (93 ∷ rest)))
-
-bracket_gap : (bs : List ℕ) → behind_gap false (91 ∷ bs) ≡ 91 ∷ bs
-unfolding behind_gap
-bracket_gap bs = refl
-
-bracket_first : (bs : List ℕ) → from_command parting (91 ∷ bs) ≡ 91 ∷ bs
-unfolding from_command
-bracket_first bs = refl
-
-query_stands : (names rest : List ℕ) → list_all is_braced names ≡ true → may_follow rest ≡ true → StandsWord (91 ∷ (query_script names ++ 93 ∷ rest)) (found (script_word (query_script names)) rest)
-query_stands names rest h follows =
-    let text : List ℕ = 91 ∷ (query_script names ++ 93 ∷ rest) in
-    let word : IsBare (91 ∷ (query_script names ++ 93 ∷ rest)) (found (script_word (query_script names)) rest) =
-    (grammar.other (part.Script (query_script names)) ∷ [], Ok rest, (rest, query_piece names rest h, follow_stops rest follows), refl) in
-    subst (λ (t : List ℕ). IsWordOf (opening t) t (found (script_word (query_script names)) rest)) (sym (bracket_gap (query_script names ++ 93 ∷ rest))) word
-
-pub query_is_word : (names : List ℕ) → list_all is_braced names ≡ true → IsWord (script_word (query_script names)) (91 ∷ (query_script names ++ 93 ∷ []))
-query_is_word names h = record {
-  some = omega arith;
-  first = λ rest follows. bracket_first ((query_script names ++ 93 ∷ []) ++ rest);
-  stands = λ rest follows.
-      subst (λ (t : List ℕ). StandsWord t (found (script_word (query_script names)) rest)) (sym (ap (λ (t : List ℕ). 91 ∷ t) (append_assoc (query_script names) (93 ∷ []) rest)))
-      (query_stands names rest h follows);
 }

@@ -1,35 +1,19 @@
--- The file of a printable mode: its words are those of the grammar, and it says what its lines go to.
-use Rattle.std.proofs.Common.{◌≡◌, ℕ, pos, Bool, true, cond, List, [], ◌∷◌, ◌++◌, length, codes, nat_lt, Some, Ok, refl, sym, ◌∙◌, ap, subst, inl, append-nil, lit<}
+-- The words of a printed header and of printed clocks are those of the grammar.
+use Rattle.std.proofs.Common.{◌≡◌, ℕ, pos, Bool, true, cond, List, [], ◌∷◌, ◌++◌, length, codes, nat_lt, refl, sym, subst, lit<}
 use Rattle.std.proofs.lemmas.Bool.{and_parts, ltb-true}
 use Rattle.std.specs.List.{list_all}
 use Rattle.sdc_base.proofs.CaseFacts.{by_bool}
 use Rattle.sdc_base.specs.Time.{time_text_of}
 use Rattle.timing_types.specs.declared.clocks.Clock.{Clock}
 use Rattle.timing_types.specs.declared.clocks.Wave.{Wave}
-use Rattle.source_types.specs.declared.commands.Command.{Command}
 use Rattle.sdc_model.specs.Bytes.{is_name_byte}
-use Rattle.sdc_model.specs.ClockFile.{SaysMode, SoFar, clock_mode, do_all, is_name, mode_of, or_fault}
-use Rattle.sdc_model.specs.PrintedCommands.{commands_of}
+use Rattle.sdc_model.specs.ClockFile.{is_name}
 use Rattle.sdc_model.specs.PrintedFile.{ArePrintableClocks, clock_line, clock_lines, header_lines, lines_of_form, unit_text}
-use Rattle.sdc_model.specs.PrintedLine.{PrintedWord, bare, braced, is_bare_text, lines_text, name_word, spaced, spelled}
-use Rattle.sdc_print.proofs.ClockLines.{Goes, line_of_form}
-use Rattle.sdc_print.proofs.CommandFacts.{lines_are_commands}
-use Rattle.sdc_print.proofs.FileText.{AreFineLines, IsFine, IsItem, all_pass, bare_spelled, braced_spelled, item_braced, items_braced, lines_are_text, lines_spelled, spelled_append}
+use Rattle.sdc_model.specs.PrintedLine.{bare, braced, is_bare_text, name_word, spaced}
+use Rattle.sdc_print.proofs.ClockLines.{line_of_form}
+use Rattle.sdc_print.proofs.FileText.{AreFineLines, IsFine, IsItem, all_pass, bare_spelled, braced_spelled, item_braced, items_braced, spelled_append}
 use Rattle.sdc_print.proofs.PlainWords.{is_plain}
 use Rattle.sdc_print.proofs.WaveText.{WaveText, ns, wave_text}
-
--- what lines go to is what their file says
-pub file_says : (lines : List (List PrintedWord)) (End : SoFar → Type 0) → AreFineLines lines → Goes (record { clocks = []; groups = [] }) lines End
-    → (now : SoFar) × End now × SaysMode (lines_text lines) (Ok (clock_mode now))
-file_says lines End s goes =
-    let start : SoFar = record { clocks = []; groups = [] } in
-    let all = goes 1 [] in
-    let commands : List Command = commands_of 1 lines in
-    let does : do_all start commands ≡ Some all.0 = ap (λ (ls : List (List PrintedWord)). do_all start (commands_of 1 ls)) (sym (append-nil lines)) ∙ all.3 in
-    let meant : Ok (clock_mode all.0) ≡ mode_of (Ok commands) = ap or_fault (sym does) in
-    (all.0, all.2, inl (lines_are_text lines s, (Ok commands, lines_are_commands lines 1 (lines_spelled lines s), meant)))
-
--- ---- words of the grammar
 
 pub header_spelled : AreFineLines (header_lines (pos 1000000))
 unfolding header_lines unit_text
