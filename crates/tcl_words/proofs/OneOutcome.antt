@@ -69,7 +69,7 @@ command_once (b ∷ bs) place f g x y =
     let one = row_once StandsWord stands_once x.0 y.0 place.text x.1 y.1 x.2 y.2 in
     x.3 ∙ (ap (λ ws. ended_command place ws x.1) one.0 ∙ (ap (λ e. ended_command place y.0 e) one.1 ∙ sym y.3))
 
-commands_once : (place : Place) → HasOne StandsCommand place
+pub commands_once : (place : Place) → HasOne StandsCommand place
 commands_once place f g x y = command_once (from_command parting place.text) (command_place place) f g x y
 
 -- ---- what stands at or behind a place
