@@ -11,7 +11,7 @@ use Rattle.source_types.specs.declared.kinds.TclKind.{TclKind}
 use Rattle.sdc_model.specs.Bytes.{before, is_digit}
 use Rattle.sdc_model.specs.Commands.{ArePieces}
 use Rattle.sdc_model.specs.Enclosed.{behind_brace}
-use Rattle.sdc_model.specs.ExpressionTokens.{IsBracedToken, IsQuotedToken, IsTokenOf, Lexeme, StandsToken, TokenFront, behind_number, brace_opens, bracket_opens, closed_word, dollar_opens, from_token, is_passed, lexeme, malformed, all_read, number_opens, number_token, operator_front, other_byte, quote_opens, script_token, text_end, variable_token}
+use Rattle.sdc_model.specs.ExpressionTokens.{IsBracedToken, IsQuotedToken, IsTokenOf, Lexeme, StandsToken, TokenFront, behind_number, brace_opens, bracket_opens, closed_word, dollar_opens, from_token, is_passed, lexeme, all_read, number_opens, number_token, operator_front, other_byte, quote_opens, script_token, text_end, variable_token}
 use Rattle.sdc_model.specs.Pieces as grammar
 use Rattle.sdc_model.specs.Row.{HasOne, found, stops}
 use Rattle.tcl_words.specs.declared.spelled.Spelled.{Spelled}
@@ -150,10 +150,6 @@ behind_blanks text from at front leads stands = subst (λ (t : List ℕ). IsToke
 pub token_found : (text : List ℕ) (from at : ℕ) (lexed : Lexed) → IsUtf8 text → IsCharBoundary text from → LeadsTo text from at (from_token (drop from text)) → LexedAt (IsTokenOf (lexeme (drop at text)) (drop at text)) text at (Ok lexed) → TokenFrom text from (Ok (Some lexed))
 token_found text from at lexed utf8 cuts leads m =
     (behind_blanks text from at (found lexed.token (drop lexed.end text)) leads m.0, omega (arith, leads.forward, m.1), m.2, m.3 utf8 (leads.keeps utf8 cuts))
-
-pub token_stop : (text : List ℕ) (from at : ℕ) (stop : Stop TclKind) → LeadsTo text from at (from_token (drop from text)) → Meets {T = Lexed} (Err stop) (LexedAt (IsTokenOf (lexeme (drop at text)) (drop at text)) text at) → Meets {T = Option Lexed} (Err stop) (TokenFrom text from)
-token_stop text from at (Refused kind) leads m = (m.0, behind_blanks text from at (stops malformed) leads m.1)
-token_stop text from at NoMemory leads m = tt
 
 -- ---- one token stands at a place
 

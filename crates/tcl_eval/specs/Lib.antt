@@ -1,6 +1,11 @@
+pub mod BranchesRead
 pub mod ExpressionReading
 pub mod Laws
 pub mod Lexing
+pub mod ListReads
 pub mod Readings
+pub mod ScriptReads
 pub mod StepsRun
 pub mod Values
+pub mod VariableMaps
+pub mod Worlds

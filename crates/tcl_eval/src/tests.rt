@@ -1,5 +1,8 @@
-//! Expressions of small texts: their steps as a reader of the Tcl rules groups them by hand, and their values.
+//! Expressions of small texts: their steps as a reader of the Tcl rules groups them by hand, and their values. Runs of
+//! small scripts.
 
+mod recording;
+mod scripts;
 mod steps;
 mod values;
 

@@ -24,7 +24,7 @@ pub fn text_of(alloc: Global, value: &Scalar) -> Result<Text, NoMemory>
 }
 
 /// A number that was read: a text that has not the form of one is `BadExpr`.
-fn expected(read: Result<Fixed, NumberError>) -> Result<Fixed, TclKind>
+pub fn expected(read: Result<Fixed, NumberError>) -> Result<Fixed, TclKind>
     ensures { result ≡ spec.expected read }
 {
     match read {
