@@ -1,2 +1,4 @@
 pub mod Forced
+pub mod KnownNames
+pub mod NamedNumbers
 pub mod Readings

@@ -6,6 +6,7 @@
 
 mod known;
 mod names;
+mod numbers;
 #[cfg(test)]
 mod parse_tests;
 mod parsing;
@@ -16,5 +17,7 @@ mod table;
 mod table_tests;
 
 pub use known::Known;
+pub use names::Names;
+pub use numbers::{Numbers, places_of};
 pub use parsing::parse;
 pub use table::Table;

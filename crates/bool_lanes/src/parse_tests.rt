@@ -1,6 +1,6 @@
 //! Functions as they stand in libraries, with the expressions that a reader of Liberty's rules groups by hand.
 
-use crate::parse;
+use crate::{Names, parse};
 use sdc_base::{List, NoMemory, Stop, Text};
 use sdc_model::Expr;
 use std::alloc::Global;
@@ -58,6 +58,7 @@ fn show_parse(alloc: Global, text: &str, names: &str) -> Result<String, NoMemory
     if names.len() > 60_001 {
         return Ok(shown);
     }
+    let names = Names::new(alloc, names)?;
     match parse(alloc, text, &names) {
         Ok(Some(expr)) => show_expr(alloc, &mut shown, &expr)?,
         Ok(None) => shown.push_str("none")?,

@@ -5,9 +5,9 @@ ghost use Rattle.std.specs.List.{list_any};
 ghost use Rattle.sdc_base.specs.Gives.{Gives};
 ghost use Rattle.sdc_model.specs.FunctionMeaning as spec;
 
-use crate::names::{count_inputs, is_other, is_unknown};
+use crate::names::Names;
 use crate::reading::expression;
-use sdc_base::{List, NoMemory, Stop, Text};
+use sdc_base::{List, NoMemory, Stop};
 use sdc_model::{Expr, LibKind};
 use std::alloc::Global;
 
@@ -43,10 +43,10 @@ fn add_input(seen: &mut List<u16>, inputs: usize, pin: u16) -> Result<(), NoMemo
 }
 
 /// The different inputs among pins. The one error is want of memory.
-fn inputs_among(alloc: Global, names: &[Text], pins: &[u16]) -> Result<List<u16>, NoMemory>
+fn inputs_among(alloc: Global, names: &Names, pins: &[u16]) -> Result<List<u16>, NoMemory>
     ensures { IfOk result (λ seen. seen ≡ spec.inputs_among names.now pins.now) }
 {
-    let inputs = count_inputs(names);
+    let inputs = names.inputs();
     let mut seen = List::new(alloc);
     for pin in pins {
         add_input(&mut seen, inputs, *pin)?;
@@ -61,21 +61,21 @@ fn inputs_among(alloc: Global, names: &[Text], pins: &[u16]) -> Result<List<u16>
 /// Refused as `FunctionForm` where the text is no function or has more than 1,024 bytes, else as `UnknownPin` where
 /// a name in it is none of the cell's, else as `FunctionWide` where more than 10 different inputs stand in it. The
 /// limits and this order are this project's own.
-pub fn parse(alloc: Global, text: &str, names: &List<Text>) -> Result<Option<Expr>, Stop<LibKind>>
+pub fn parse(alloc: Global, text: &str, names: &Names) -> Result<Option<Expr>, Stop<LibKind>>
     requires { length names.now ≤ 60001 }
     ensures { Gives result (spec.meaning names.now text.now) }
 {
     if text.len() > MOST_BYTES {
         return Err(Stop::Refused(LibKind::FunctionForm));
     }
-    match expression(alloc, names.as_slice(), text.as_bytes())? {
+    match expression(alloc, names, text.as_bytes())? {
         None => Err(Stop::Refused(LibKind::FunctionForm)),
-        Some(expr) => meaning_of(alloc, names.as_slice(), expr),
+        Some(expr) => meaning_of(alloc, names, expr),
     }
 }
 
 /// What an expression means among a cell's names, refused as `UnknownPin` or `FunctionWide` as `parse` says.
-fn meaning_of(alloc: Global, names: &[Text], expr: Expr) -> Result<Option<Expr>, Stop<LibKind>>
+fn meaning_of(alloc: Global, names: &Names, expr: Expr) -> Result<Option<Expr>, Stop<LibKind>>
     ensures { Gives result (spec.meaning_of names.now (spec.pins_of expr) expr) }
 {
     let mut pins = List::new(alloc);
@@ -94,15 +94,15 @@ fn meaning_of(alloc: Global, names: &[Text], expr: Expr) -> Result<Option<Expr>,
 }
 
 /// Whether one of some places is behind all names.
-fn any_unknown(names: &[Text], pins: &[u16]) -> bool
+fn any_unknown(names: &Names, pins: &[u16]) -> bool
     ensures { result ≡ list_any (spec.is_unknown names.now) pins.now }
 {
-    pins.iter().any(|pin| is_unknown(names, *pin))
+    pins.iter().any(|pin| names.is_unknown(*pin))
 }
 
 /// Whether one of some places has the name of a state variable or of a pin that is no input.
-fn any_other(names: &[Text], pins: &[u16]) -> bool
+fn any_other(names: &Names, pins: &[u16]) -> bool
     ensures { result ≡ list_any (spec.is_other names.now) pins.now }
 {
-    pins.iter().any(|pin| is_other(names, *pin))
+    pins.iter().any(|pin| names.is_other(*pin))
 }

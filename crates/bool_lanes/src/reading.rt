@@ -4,9 +4,9 @@ ghost use Rattle.std.specs.Prelude.{◌≡◌, ◌≤◌, [], length, reverse, I
 ghost use Rattle.bool_lanes.specs.Readings.{behind_of, seen};
 ghost use Rattle.sdc_model.specs.FunctionText as spec;
 
-use crate::names::place_of;
+use crate::names::Names;
 use crate::pending::{behind_and, behind_not, behind_or, behind_xor, nothing_open, sum_with};
-use sdc_base::{List, NoMemory, Text};
+use sdc_base::{List, NoMemory};
 use sdc_model::{Expr, Operand, Pending, Sign};
 use sqlite_items::Boxed;
 use std::alloc::Global;
@@ -38,27 +38,27 @@ fn sign_of(byte: u8) -> Sign
 }
 
 /// What a word means among a cell's names: `0`, `1`, or the pin of that name.
-fn word_meaning(names: &[Text], word: &[u8]) -> Expr
+fn word_meaning(names: &Names, word: &List<u8>) -> Expr
     requires { length names.now ≤ 60001 }
     ensures { result ≡ spec.word_meaning names.now word.now }
 {
-    if word == b"0".as_slice() {
+    if word.as_slice() == b"0".as_slice() {
         Expr::Zero
-    } else if word == b"1".as_slice() {
+    } else if word.as_slice() == b"1".as_slice() {
         Expr::One
     } else {
-        Expr::Pin(place_of(names, word))
+        Expr::Pin(names.place_of(word))
     }
 }
 
 /// The operand that ends at a place, if one does.
-fn operand_in(names: &[Text], operand: Operand) -> Option<Expr>
+fn operand_in(names: &Names, operand: Operand) -> Option<Expr>
     requires { length names.now ≤ 60001 }
     ensures { result ≡ spec.operand_in names.now operand }
 {
     match operand {
         Operand::Due => None,
-        Operand::Word(word) => Some(word_meaning(names, word.as_slice())),
+        Operand::Word(word) => Some(word_meaning(names, &word)),
         Operand::Stands(operand) | Operand::Apart(operand) => Some(operand),
     }
 }
@@ -187,7 +187,7 @@ impl Reading {
     }
 
     /// This and a blank, before which an operand ends.
-    fn with_blank(self, names: &[Text]) -> Reading
+    fn with_blank(self, names: &Names) -> Reading
         requires { length names.now ≤ 60001 }
         ensures { seen result ≡ spec.with_blank names.now (seen self) }
     {
@@ -229,7 +229,7 @@ impl Reading {
     }
 
     /// This and `)`, where an operand ends in parentheses.
-    fn closed(self, alloc: Global, names: &[Text]) -> Result<Option<Reading>, NoMemory>
+    fn closed(self, alloc: Global, names: &Names) -> Result<Option<Reading>, NoMemory>
         requires { length names.now ≤ 60001 }
         ensures { IfOk result (λ o. option_map seen o ≡ option_and_then (spec.closed self.pending (seen self).outer) (spec.operand_in names.now self.operand)) }
     {
@@ -249,7 +249,7 @@ impl Reading {
     }
 
     /// This and `'`, where an operand ends.
-    fn primed(self, alloc: Global, names: &[Text]) -> Result<Option<Reading>, NoMemory>
+    fn primed(self, alloc: Global, names: &Names) -> Result<Option<Reading>, NoMemory>
         requires { length names.now ≤ 60001 }
         ensures { IfOk result (λ o. option_map seen o ≡ option_map (spec.primed self.pending (seen self).outer) (spec.operand_in names.now self.operand)) }
     {
@@ -268,7 +268,7 @@ impl Reading {
     fn operated(
         self,
         alloc: Global,
-        names: &[Text],
+        names: &Names,
         operator: Operator,
     ) -> Result<Option<Reading>, NoMemory>
         requires { length names.now ≤ 60001 }
@@ -285,7 +285,7 @@ impl Reading {
     }
 
     /// This and a byte more, if the text can go on with it. The one error is want of memory.
-    fn step(self, alloc: Global, names: &[Text], byte: u8) -> Result<Option<Reading>, NoMemory>
+    fn step(self, alloc: Global, names: &Names, byte: u8) -> Result<Option<Reading>, NoMemory>
         requires { length names.now ≤ 60001 }
         ensures { IfOk result (λ o. option_map seen o ≡ spec.step names.now (seen self) (spec.sign_of byte) byte) }
     {
@@ -304,7 +304,7 @@ impl Reading {
 
     /// The expression that a whole text is, where an operand stands at its end and no parentheses are open. The one
     /// error is want of memory.
-    fn ended(self, alloc: Global, names: &[Text]) -> Result<Option<Expr>, NoMemory>
+    fn ended(self, alloc: Global, names: &Names) -> Result<Option<Expr>, NoMemory>
         requires { length names.now ≤ 60001 }
         ensures { IfOk result (λ o. o ≡ spec.ended names.now (seen self)) }
     {
@@ -321,7 +321,7 @@ impl Reading {
 
 /// The expression that a text is, where it is one, each word in it being `0`, `1` or a name by its place among a
 /// cell's names (Liberty, `function`). The one error is want of memory.
-pub fn expression(alloc: Global, names: &[Text], text: &[u8]) -> Result<Option<Expr>, NoMemory>
+pub fn expression(alloc: Global, names: &Names, text: &[u8]) -> Result<Option<Expr>, NoMemory>
     requires { length names.now ≤ 60001 }
     ensures { IfOk result (λ o. o ≡ spec.expression names.now text.now) }
 {

@@ -4,7 +4,7 @@ ghost use Rattle.std.specs.Prelude.{◌≡◌, ◌≤◌, IfOk};
 ghost use Rattle.sdc_model.specs.FunctionValue.{pins_are_below};
 
 use crate::known::bit;
-use crate::{Known, Table, parse};
+use crate::{Known, Names, Table, parse};
 use sdc_base::{List, NoMemory, Stop, Text};
 use sdc_model::Expr;
 use std::alloc::Global;
@@ -26,6 +26,7 @@ fn function_of(alloc: Global, text: &str) -> Result<Expr, NoMemory> {
     if names.len() > 10 {
         return Ok(Expr::Zero);
     }
+    let names = Names::new(alloc, names)?;
     match parse(alloc, text, &names) {
         Ok(Some(expr)) => Ok(expr),
         Ok(None) | Err(Stop::Refused(_)) => Ok(Expr::Zero),

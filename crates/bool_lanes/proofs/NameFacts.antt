@@ -1,0 +1,110 @@
+-- The names of a cell: found by their places, and known to be no inputs.
+use Rattle.std.proofs.Common.{◌≡◌, ◌∙◌, ◌+◌, ◌<◌, ◌≤◌, ◌||◌, ℕ, Bool, true, false, cond, List, [], ◌∷◌, drop, get_or, length, Some, None, refl, sym, ap, subst, arith, nat_le, nat_lt, not}
+use Rattle.std.proofs.lemmas.Bool.Decides.{nat_tests}
+use Rattle.std.proofs.lemmas.Map.Text.{is_eq-slice_cmp}
+use Rattle.std.specs.BTreeSet.{BTreeSet, Updates, contains}
+use Rattle.std.specs.Cmp.Lexicographic.{slice_cmp}
+use Rattle.std.specs.Ordering.{nat_cmp}
+use Rattle.sdc_model.specs.FunctionMeaning.{inputs_in, is_other}
+use Rattle.sdc_model.specs.FunctionText.{place_in}
+use Rattle.sdc_model.specs.Words.{same_text}
+use Rattle.bool_lanes.specs.KnownNames.{AddsName, AreKnown, HasNames, is_among}
+use Rattle.bool_lanes.specs.NamedNumbers.{HasPlaces, number_at}
+use Rattle.bool_lanes.specs.declared.numbers.Numbers.{Numbers}
+use Rattle.bool_lanes.proofs.NumberFacts.{place_from-place_if}
+
+pub known : (names : List (List ℕ)) (inputs : ℕ) (places : Numbers) (others : BTreeSet (List ℕ)) → inputs ≡ inputs_in names
+    → inputs ≤ length names → HasPlaces places names → HasNames others (drop (inputs + 1) names) → AreKnown names inputs places others
+known names inputs places others count within placed apart = record { count = count; within = within; placed = placed; apart = apart }
+
+-- ---- the place of a word
+
+found_step : (p n place : ℕ) (t : Bool) → nat_lt p n ≡ t → cond t (Some p) None ≡ Some place → place ≡ p
+found_step p n place true e f = cc
+found_step p n place false e f = cc
+
+within_step : (t : Bool) (p n m : ℕ) → p ≤ n → m ≡ 1 + n → cond (not t) (1 + p) 0 ≤ m
+within_step true p n m h e = omega arith
+within_step false p n m h e = omega arith
+
+place_in-within : (names : List (List ℕ)) (word : List ℕ) → place_in names word ≤ length names
+place_in-within [] word = omega arith
+place_in-within (name ∷ names) word =
+    within_step (same_text name word) (place_in names word) (length names) (length (name ∷ names)) (place_in-within names word) (omega arith)
+
+none_step : (p n : ℕ) (t : Bool) → p ≤ n → nat_lt p n ≡ t → cond t (Some p) None ≡ None → n ≡ p
+none_step p n true h e f = cc
+none_step p n false h e f = let g : n ≤ p = grind (arith, nat_tests) in omega (arith, h, g)
+
+pub place_found : (places : Numbers) (names : List (List ℕ)) (word : List ℕ) (place : ℕ) → HasPlaces places names
+    → number_at places word ≡ Some place → place ≡ place_in names word
+place_found places names word place placed e =
+    found_step (place_in names word) (length names) place (nat_lt (place_in names word) (length names)) refl
+    (sym (place_from-place_if names word) ∙ (sym (placed word) ∙ e))
+
+pub place_few : (places : Numbers) (names : List (List ℕ)) (word : List ℕ) (place : ℕ) → HasPlaces places names → length names ≤ 60001
+    → number_at places word ≡ Some place → place ≤ 60001
+place_few places names word place placed few e =
+    let g = place_found places names word place placed e in
+    let h = place_in-within names word in
+    omega (arith, few, g, h)
+
+pub place_none : (places : Numbers) (names : List (List ℕ)) (word : List ℕ) → HasPlaces places names
+    → number_at places word ≡ None → length names ≡ place_in names word
+place_none places names word placed e =
+    none_step (place_in names word) (length names) (nat_lt (place_in names word) (length names)) (place_in-within names word) refl
+    (sym (place_from-place_if names word) ∙ (sym (placed word) ∙ e))
+
+-- ---- names that are no inputs
+
+pub other_behind : (names : List (List ℕ)) (inputs pin : ℕ) → inputs ≡ inputs_in names → inputs ≤ pin → true ≡ is_other names pin
+other_behind names inputs pin count behind =
+    let h : inputs_in names ≤ pin = subst (λ n. n ≤ pin) count behind in
+    let e : nat_le (inputs_in names) pin ≡ true = grind (arith, nat_tests) in
+    sym (ap (λ t. t || is_among (drop (inputs_in names + 1) names) (get_or names pin [])) e)
+
+pub other_among : (names : List (List ℕ)) (inputs pin : ℕ) (others : BTreeSet (List ℕ)) → inputs ≡ inputs_in names → pin < inputs
+    → HasNames others (drop (inputs + 1) names) → contains (slice_cmp nat_cmp) others (get_or names pin []) ≡ is_other names pin
+other_among names inputs pin others count before apart =
+    let h : pin < inputs_in names = subst (λ n. pin < n) count before in
+    let e : nat_le (inputs_in names) pin ≡ false = grind (arith, nat_tests) in
+    apart (get_or names pin [])
+    ∙ (ap (λ n. is_among (drop (n + 1) names) (get_or names pin [])) count
+    ∙ sym (ap (λ t. t || is_among (drop (inputs_in names + 1) names) (get_or names pin [])) e))
+
+-- ---- names one after the other
+
+-- the set has the names so far: with the others they are all
+abbrev pub SetSoFar : BTreeSet (List ℕ) → List (List ℕ) → List (List ℕ) → Type 0
+SetSoFar set rest names = (name : List ℕ) → (contains (slice_cmp nat_cmp) set name || is_among rest name) ≡ is_among names name
+
+pub set_none : (set : BTreeSet (List ℕ)) (names : List (List ℕ)) → set.keys ≡ [] → SetSoFar set names names
+set_none set names empty name = rw empty refl
+
+pub added : (old new : BTreeSet (List ℕ)) (own : List ℕ) → Updates (slice_cmp nat_cmp) old new own true → AddsName old new own
+added old new own updates name =
+    updates.0 name
+    ∙ (ap (λ t. cond t true (contains (slice_cmp nat_cmp) old name)) (is_eq-slice_cmp own name)
+    ∙ or_is (same_text own name) (contains (slice_cmp nat_cmp) old name)) where
+      or_is : (t old : Bool) → cond t true old ≡ (t || old)
+      or_is true old = refl
+      or_is false old = refl
+
+or_behind : (t old behind : Bool) → ((t || old) || behind) ≡ (old || (t || behind))
+or_behind true true behind = refl
+or_behind true false behind = refl
+or_behind false old behind = refl
+
+pub set_more : (old new : BTreeSet (List ℕ)) (own : List ℕ) (rest names : List (List ℕ)) → SetSoFar old (own ∷ rest) names
+    → AddsName old new own → SetSoFar new rest names
+set_more old new own rest names so_far adds name =
+    ap (λ t. t || is_among rest name) (adds name)
+    ∙ (or_behind (same_text own name) (contains (slice_cmp nat_cmp) old name) (is_among rest name)
+    ∙ so_far name)
+
+or_false : (t : Bool) → (t || false) ≡ t
+or_false true = refl
+or_false false = refl
+
+pub set_all : (set : BTreeSet (List ℕ)) (names : List (List ℕ)) → SetSoFar set [] names → HasNames set names
+set_all set names so_far name = sym (or_false (contains (slice_cmp nat_cmp) set name)) ∙ so_far name

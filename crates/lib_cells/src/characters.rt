@@ -1,0 +1,229 @@
+//! The characters of a library's text: its bytes with their lines, where comments and the ends of continued lines are
+//! blanks.
+
+ghost use Rattle.std.specs.Prelude.{◌≡◌, ◌++◌, ◌==◌, ◌∷◌, ◌&&◌, ◌+◌, min, map, IfOk, OnOk, if◌then◌else◌};
+ghost use Rattle.sdc_model.specs.Bytes.{begins_with};
+ghost use Rattle.sdc_model.specs.Continued.{continues as goes_on};
+ghost use Rattle.sdc_model.specs.LibertyTokens.{begins_comment as opens_comment, begins_continued as opens_continued, in_comment_behind, is_in_comment, line_behind as line_of_next, plain, quotes, shown, within_behind};
+ghost use Rattle.lib_cells.specs.Characters.{as_list, AreCharacters, IsAdded};
+ghost use Rattle.lib_cells.specs.Seen.{within_seen};
+
+use sdc_base::{List, NoMemory};
+use std::alloc::Global;
+
+/// What a byte stands in.
+#[derive(Clone, Copy, Debug, PartialEq, Eq)]
+pub enum Within {
+    /// None of the others.
+    Plain,
+    /// A quoted text.
+    Quotes,
+    /// A comment, at the `*` of its `/*`.
+    CommentStart,
+    /// A comment.
+    Comment,
+    /// A comment, behind a `*` in it.
+    CommentStar,
+    /// The end of a continued line.
+    Continued,
+    /// The end of a continued line in a quoted text.
+    ContinuedQuotes,
+}
+
+/// Whether a text begins with a byte.
+fn begins(text: &[u8], byte: u8) -> bool
+    ensures { result ≡ begins_with byte text.now }
+{
+    match text {
+        [first, ..] => *first == byte,
+        [] => false,
+    }
+}
+
+/// Whether a text behind a backslash begins as a continued line does: with a newline, or a carriage return and one.
+fn continues(text: &[u8]) -> bool
+    ensures { result ≡ goes_on text.now }
+{
+    match text {
+        [first, behind @ ..] => *first == b'\n' || (*first == b'\r' && begins(behind, b'\n')),
+        [] => false,
+    }
+}
+
+/// Whether a byte and the text behind it begin a comment.
+fn begins_comment(byte: u8, behind: &[u8]) -> bool
+    ensures { result ≡ opens_comment byte behind.now }
+{
+    byte == b'/' && begins(behind, b'*')
+}
+
+/// Whether a byte and the text behind it continue a line.
+fn begins_continued(byte: u8, behind: &[u8]) -> bool
+    ensures { result ≡ opens_continued byte behind.now }
+{
+    byte == b'\\' && continues(behind)
+}
+
+/// What the text behind a byte of a comment stands in, where the comment does not end with it.
+fn behind_comment(byte: u8) -> Within
+    ensures { within_seen result ≡ in_comment_behind byte }
+{
+    if byte == b'*' {
+        return Within::CommentStar;
+    }
+    Within::Comment
+}
+
+/// The line behind a byte on a line. The last line number stays.
+pub fn line_behind(byte: u8, line: u32) -> u32
+    ensures { result ≡ line_of_next byte line }
+{
+    if byte == b'\n' {
+        return line.saturating_add(1);
+    }
+    line
+}
+
+impl Within {
+    /// Whether this is a comment.
+    pub fn is_in_comment(self) -> bool
+        ensures { result ≡ is_in_comment (within_seen self) }
+    {
+        matches!(
+            self,
+            Within::CommentStart | Within::Comment | Within::CommentStar
+        )
+    }
+
+    /// What a byte is as a character, if it is one, given the text behind it.
+    fn shown(self, byte: u8, behind: &[u8]) -> Option<u8>
+        ensures { as_list result ≡ shown (within_seen self) byte behind.now }
+    {
+        match self {
+            Within::Plain => {
+                if begins_comment(byte, behind) || begins_continued(byte, behind) {
+                    return Some(b' ');
+                }
+                Some(byte)
+            }
+            Within::Quotes => {
+                if begins_continued(byte, behind) {
+                    return Some(b' ');
+                }
+                Some(byte)
+            }
+            _ => None,
+        }
+    }
+
+    /// What the text behind a byte stands in.
+    fn behind(self, byte: u8, behind: &[u8]) -> Within
+        ensures { within_seen result ≡ within_behind (within_seen self) byte behind.now }
+    {
+        match self {
+            Within::Plain => plain_behind(byte, behind),
+            Within::Quotes => quotes_behind(byte, behind),
+            Within::CommentStart => Within::Comment,
+            Within::Comment => behind_comment(byte),
+            Within::CommentStar => star_behind(byte),
+            Within::Continued => continued_behind(byte, Within::Continued, Within::Plain),
+            Within::ContinuedQuotes => {
+                continued_behind(byte, Within::ContinuedQuotes, Within::Quotes)
+            }
+        }
+    }
+}
+
+/// What the text behind a byte stands in that stands in nothing.
+fn plain_behind(byte: u8, behind: &[u8]) -> Within
+    ensures { within_seen result ≡ within_behind plain byte behind.now }
+{
+    if begins_comment(byte, behind) {
+        return Within::CommentStart;
+    }
+    if begins_continued(byte, behind) {
+        return Within::Continued;
+    }
+    if byte == b'"' {
+        return Within::Quotes;
+    }
+    Within::Plain
+}
+
+/// What the text behind a byte of a quoted text stands in.
+fn quotes_behind(byte: u8, behind: &[u8]) -> Within
+    ensures { within_seen result ≡ within_behind quotes byte behind.now }
+{
+    if begins_continued(byte, behind) {
+        return Within::ContinuedQuotes;
+    }
+    if byte == b'"' {
+        return Within::Plain;
+    }
+    Within::Quotes
+}
+
+/// What the text behind a byte of a comment stands in, behind a `*`.
+fn star_behind(byte: u8) -> Within
+    ensures { within_seen result ≡ (if byte == 47 then plain else in_comment_behind byte) }
+{
+    if byte == b'/' {
+        return Within::Plain;
+    }
+    behind_comment(byte)
+}
+
+/// What the text behind a byte stands in at the end of a continued line.
+fn continued_behind(byte: u8, continued: Within, ended: Within) -> Within
+    ensures { within_seen result ≡ (if byte == 10 then within_seen ended else within_seen continued) }
+{
+    if byte == b'\n' {
+        return ended;
+    }
+    continued
+}
+
+/// The characters so far of a text, each with its line, and what the text behind them stands in.
+#[derive(Debug, Drop)]
+pub struct Characters {
+    pub bytes: List<u8>,
+    pub lines: List<u32>,
+    pub within: Within,
+}
+
+impl Characters {
+    /// Adds a byte on a line as what it is as a character, given the text behind it. The one error is want of memory.
+    fn add(&mut self, byte: u8, behind: &[u8], line: u32) -> Result<(), NoMemory>
+        ensures { OnOk result (IsAdded self.old self.new byte behind.now line) }
+    {
+        let within = self.within;
+        if let Some(shown) = within.shown(byte, behind) {
+            self.bytes.push(shown)?;
+            self.lines.push(line)?;
+        }
+        self.within = within.behind(byte, behind);
+        Ok(())
+    }
+}
+
+/// The characters of a text. The one error is want of memory.
+#[tactic(auto, using(crate::proofs::CharacterFacts::so_far_none, crate::proofs::CharacterFacts::so_far_more, crate::proofs::CharacterFacts::so_far_all))]
+pub fn read_characters(alloc: Global, text: &[u8]) -> Result<Characters, NoMemory>
+    ensures { IfOk result (λ found. AreCharacters text.now found) }
+{
+    let bytes: Vec<u8> = Vec::with_capacity(alloc, text.len())?;
+    let lines: Vec<u32> = Vec::with_capacity(alloc, text.len())?;
+    let mut found = Characters {
+        bytes: List::from(bytes),
+        lines: List::from(lines),
+        within: Within::Plain,
+    };
+    let mut line = 1;
+    let mut rest = text;
+    while let [byte, behind @ ..] = rest {
+        found.add(*byte, behind, line)?;
+        line = line_behind(*byte, line);
+        rest = behind;
+    }
+    Ok(found)
+}
