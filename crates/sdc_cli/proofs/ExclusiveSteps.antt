@@ -8,9 +8,11 @@ use Rattle.std.specs.List.Sorted.{IsStrictlySortedBy}
 use Rattle.std.specs.Result.{IfOk}
 use Rattle.std.specs.declared.cmp.Ordering.TheVariants.{Less}
 use Rattle.timing_types.specs.declared.clocks.Pair.{Pair}
-use Rattle.sdc_model.specs.ClockGroups.{Groups, is_among, is_parted, pairs_from, exclusive_pairs}
-use Rattle.sdc_cli.specs.Exclusive.{GroupsBelow, HasMore, HasSame, has_pair, pair_cmp, parts, parts_some, parts_any, parts_in}
+use Rattle.sdc_model.specs.ClockFile.{pairs_apart}
+use Rattle.sdc_model.specs.ClockGroups.{Groups, all_set_apart, is_among, is_parted, pairs_from, exclusive_pairs}
+use Rattle.sdc_cli.specs.Exclusive.{CommandsBelow, GroupsBelow, HasMore, HasSame, has_pair, pair_cmp, parts, parts_some, parts_any, parts_in}
 use Rattle.clock_map.proofs.RisingPairs.{AllAfter, Rising, Among, same_lists}
+use Rattle.sdc_cli.proofs.GroupSteps.{all_below}
 use Rattle.sdc_cli.proofs.RisingPairs.{pair_is_parted, pair_is_same, before_from_less}
 use Rattle.sdc_cli.proofs.PairLists.{from_sound, from_complete, rising_from}
 
@@ -118,12 +120,12 @@ exclusive_is pairs groups count sorted has below =
     among_from_has p pairs (has p ∙ (parts_in-is groups p ∙ parts)))
 
 -- the answer of the reader, where it is one
-pub exclusive_answer : {E : Type 0} (answer : Result (List Pair) E) (keys : List Pair) (groups : List Groups) → IfOk answer (λ list. list ≡ keys) → IfOk answer (IsStrictlySortedBy pair_cmp)
-    → ((pair : Pair) → list_any (is_at (pair_cmp pair)) keys ≡ parts_in groups pair)
-    → IfOk answer (λ pairs. (count : ℕ) → GroupsBelow count groups → pairs ≡ exclusive_pairs groups count)
-exclusive_answer (Ok list) keys groups same sorted has =
-    λ count below. exclusive_is list groups count sorted (λ pair. ap (list_any (is_at (pair_cmp pair))) same ∙ has pair) below
-exclusive_answer (Err e) keys groups same sorted has = tt
+pub exclusive_answer : {E : Type 0} (answer : Result (List Pair) E) (keys : List Pair) (count : ℕ) (commands : List (List (List ℕ))) → IfOk answer (λ list. list ≡ keys) → IfOk answer (IsStrictlySortedBy pair_cmp)
+    → ((pair : Pair) → list_any (is_at (pair_cmp pair)) keys ≡ parts_in (all_set_apart count commands) pair)
+    → IfOk answer (λ pairs. CommandsBelow count commands → pairs ≡ pairs_apart count commands)
+exclusive_answer (Ok list) keys count commands same sorted has =
+    λ below. exclusive_is list (all_set_apart count commands) count sorted (λ pair. ap (list_any (is_at (pair_cmp pair))) same ∙ has pair) (all_below count commands below)
+exclusive_answer (Err e) keys count commands same sorted has = tt
 
 -- the pairs of groups are those of the same groups with each place once
 pub HasMore-distinct : (old new : BTreeSet Pair) (is js is_once js_once : List ℕ) → HasSame is is_once → HasSame js js_once → HasMore old new (parts_any is_once js_once) → HasMore old new (parts_any is js)

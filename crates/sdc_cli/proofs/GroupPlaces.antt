@@ -1,13 +1,20 @@
 -- Places of clocks in groups are below the number of the clocks.
-use Rattle.std.proofs.Common.{◌≡◌, ◌<◌, ◌≤◌, ◌==◌, ◌+◌, ℕ, suc, Bool, true, false, cond, List, [], ◌∷◌, ◌++◌, length, Option, Some, None, refl, subst, arith, inl, inr}
+use Rattle.std.proofs.Common.{◌≡◌, ◌<◌, ◌≤◌, ◌==◌, ◌+◌, ℕ, suc, Bool, true, false, cond, List, [], ◌∷◌, ◌++◌, length, Option, Some, None, refl, sym, subst, arith, inl, inr}
 use Rattle.std.proofs.lemmas.Bool.{eqb-true, or_cases}
-use Rattle.std.specs.Option.{option_and_then}
+use Rattle.std.proofs.lemmas.Bool.Decides.{nat_tests}
+use Rattle.std.specs.List.{list_any}
+use Rattle.std.specs.Option.{option_and_then, option_map}
+use Rattle.std.specs.Prelude.{nat_lt}
 use Rattle.timing_types.specs.declared.clocks.Clock.{Clock}
-use Rattle.source_types.specs.declared.commands.Part.{Part}
-use Rattle.sdc_model.specs.ClockGroups.{Groups, is_among, group_of, names_text, place_from, places_in, places_of}
+use Rattle.timing_types.specs.declared.objects.Object.{Object}
+use Rattle.timing_types.specs.declared.objects.Object.TheVariants as object
+use Rattle.timing_types.specs.declared.objects.Value.{Value}
+use Rattle.timing_types.specs.declared.objects.Value.TheVariants as value
+use Rattle.sdc_model.specs.ClockCommands.{GroupOptions, group_options, groups_given, groups_of, groups_placed, no_groups, with_effect}
+use Rattle.sdc_model.specs.ClockGroups.{clock_place, clock_places, group_of, is_among, place_from, places_of}
 use Rattle.sdc_model.specs.ListReading.{items_of}
 use Rattle.sdc_model.specs.Words.{same_text}
-use Rattle.sdc_cli.specs.Exclusive.{AreBelow, GroupsBelow}
+use Rattle.sdc_cli.specs.Exclusive.{AllBelow, AreBelow, CommandsBelow}
 
 place_step : (t : Bool) (place p n : ℕ) (others : Option ℕ) → (others ≡ Some p → p < (place + 1) + n) → cond t (Some place) others ≡ Some p → p < place + suc n
 place_step true place p n others below e = let same : place ≡ p = cc in omega arith
@@ -42,23 +49,74 @@ list_step : (clocks : List Clock) (names : Option (List (List ℕ))) (ps : List 
 list_step clocks None ps e = cc
 list_step clocks (Some names) ps e = places_of-below clocks names ps e
 
-group_step : (clocks : List Clock) (text : Option (List ℕ)) (ps : List ℕ) → option_and_then (places_in clocks) text ≡ Some ps → AreBelow (length clocks) ps
-group_step clocks None ps e = cc
-group_step clocks (Some text) ps e = list_step clocks (items_of text) ps e
+place_within : (count place p : ℕ) (t : Bool) → nat_lt place count ≡ t → cond t (Some place) None ≡ Some p → p < count
+place_within count place p true here e = let same : place ≡ p = cc in let less : place < count = grind (arith, nat_tests) in omega arith
+place_within count place p false here e = cc
 
-pub group_of-below : (clocks : List Clock) (parts : List Part) (ps : List ℕ) → group_of clocks parts ≡ Some ps → AreBelow (length clocks) ps
-group_of-below clocks parts ps e = group_step clocks (names_text parts) ps e
+clock_place-below : (count : ℕ) (object : Object) (p : ℕ) → clock_place count object ≡ Some p → p < count
+clock_place-below count (object.Clock place) p e = place_within count place p (nat_lt place count) refl e
+clock_place-below count _ p e = cc
+
+clock_places-below : (count : ℕ) (objects : List Object) (ps : List ℕ) → clock_places count objects ≡ Some ps → AreBelow count ps
+clock_places-below count [] ps e = let same : [] ≡ ps = cc in subst (AreBelow count) same (λ place among. cc)
+clock_places-below count (first ∷ objects) ps e =
+    places_step count (clock_place count first) (clock_places count objects) ps (clock_place-below count first) (clock_places-below count objects) e
+
+-- the places of a group, and of all groups of a command
+group_of-below : (clocks : List Clock) (group : Value) (ps : List ℕ) → group_of clocks group ≡ Some ps → AreBelow (length clocks) ps
+group_of-below clocks (value.Text text) ps e = list_step clocks (items_of text) ps e
+group_of-below clocks (value.Objects objects) ps e = clock_places-below (length clocks) objects ps e
+
+groups_step : (n : ℕ) (found : Option (List ℕ)) (others : Option (List (List ℕ))) (gs : List (List ℕ)) → ((p : List ℕ) → found ≡ Some p → AreBelow n p)
+    → ((qs : List (List ℕ)) → others ≡ Some qs → AllBelow n qs) → option_and_then (λ places. option_and_then (λ more. Some (places ∷ more)) others) found ≡ Some gs → AllBelow n gs
+groups_step n None others gs here below e = cc
+groups_step n (Some p) None gs here below e = cc
+groups_step n (Some p) (Some qs) gs here below e =
+    let same : p ∷ qs ≡ gs = cc in
+    subst (AllBelow n) same (here p refl, below qs refl)
+
+groups_placed-below : (clocks : List Clock) (groups : List Value) (gs : List (List ℕ)) → groups_placed clocks groups ≡ Some gs → AllBelow (length clocks) gs
+groups_placed-below clocks [] gs e = let same : [] ≡ gs = cc in subst (AllBelow (length clocks)) same tt
+groups_placed-below clocks (group ∷ groups) gs e =
+    groups_step (length clocks) (group_of clocks group) (groups_placed clocks groups) gs (group_of-below clocks group) (groups_placed-below clocks groups) e
+
+effect_step : (n : ℕ) (test : Bool) (groups : List (List ℕ)) → AllBelow n groups → AllBelow n (cond test [] groups)
+effect_step n true groups below = tt
+effect_step n false groups below = below
+
+given_step : (n : ℕ) (placed : Option (List (List ℕ))) (gs : List (List ℕ)) → ((ps : List (List ℕ)) → placed ≡ Some ps → AllBelow n ps)
+    → option_map with_effect placed ≡ Some gs → AllBelow n gs
+given_step n None gs below e = cc
+given_step n (Some ps) gs below e =
+    let same : with_effect ps ≡ gs = cc in
+    subst (AllBelow n) same (effect_step n (list_any (λ (group : List ℕ). length group == 0) ps) ps (below ps refl))
+
+groups_given-below : (clocks : List Clock) (asynchronous : Bool) (groups : List Value) (gs : List (List ℕ)) → groups_given clocks asynchronous groups ≡ Some gs → AllBelow (length clocks) gs
+groups_given-below clocks true (group ∷ groups) gs e =
+    given_step (length clocks) (groups_placed clocks (group ∷ groups)) gs (groups_placed-below clocks (group ∷ groups)) e
+groups_given-below clocks _ _ gs e = cc
+
+options_step : (clocks : List Clock) (given : Option GroupOptions) (gs : List (List ℕ))
+    → option_and_then (λ (options : GroupOptions). groups_given clocks options.asynchronous options.groups) given ≡ Some gs → AllBelow (length clocks) gs
+options_step clocks None gs e = cc
+options_step clocks (Some given) gs e = groups_given-below clocks given.asynchronous given.groups gs e
+
+pub groups_of-below : (clocks : List Clock) (words : List Value) (gs : List (List ℕ)) → Some gs ≡ groups_of clocks words → AllBelow (length clocks) gs
+groups_of-below clocks words gs e = options_step clocks (group_options clocks no_groups words) gs (sym e)
 
 -- they stay so as clocks are added
-pub GroupsBelow-grow : (n m : ℕ) (groups : List Groups) → n ≤ m → GroupsBelow n groups → GroupsBelow m groups
-GroupsBelow-grow n m [] more below = tt
-GroupsBelow-grow n m (g ∷ groups) more below = (
+all_grow : (n m : ℕ) (groups : List (List ℕ)) → n ≤ m → AllBelow n groups → AllBelow m groups
+all_grow n m [] more below = tt
+all_grow n m (group ∷ groups) more below = (
   λ place among. let small : place < n = below.0 place among in omega arith,
-  λ place among. let small : place < n = below.1 place among in omega arith,
-  GroupsBelow-grow n m groups more below.2,
+  all_grow n m groups more below.1,
 )
 
--- and as groups are
-pub GroupsBelow-push : (n : ℕ) (groups : List Groups) (g : Groups) → GroupsBelow n groups → AreBelow n g.first → AreBelow n g.second → GroupsBelow n (groups ++ g ∷ [])
-GroupsBelow-push n [] g below first second = (first, second, tt)
-GroupsBelow-push n (h ∷ groups) g below first second = (below.0, below.1, GroupsBelow-push n groups g below.2 first second)
+pub CommandsBelow-grow : (n m : ℕ) (commands : List (List (List ℕ))) → n ≤ m → CommandsBelow n commands → CommandsBelow m commands
+CommandsBelow-grow n m [] more below = tt
+CommandsBelow-grow n m (groups ∷ commands) more below = (all_grow n m groups more below.0, CommandsBelow-grow n m commands more below.1)
+
+-- and as commands are
+pub CommandsBelow-push : (n : ℕ) (commands : List (List (List ℕ))) (groups : List (List ℕ)) → CommandsBelow n commands → AllBelow n groups → CommandsBelow n (commands ++ groups ∷ [])
+CommandsBelow-push n [] groups below here = (here, tt)
+CommandsBelow-push n (first ∷ commands) groups below here = (below.0, CommandsBelow-push n commands groups below.1 here)

@@ -6,6 +6,8 @@ pub mod DistinctPlaces
 pub mod EdgeLines
 pub mod ExclusiveSteps
 pub mod GroupPlaces
+pub mod GroupSteps
+pub mod HostSteps
 pub mod ItemSteps
 pub mod MergedClocks
 pub mod MergedLengths

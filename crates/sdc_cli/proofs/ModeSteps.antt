@@ -1,7 +1,5 @@
 -- Mode files read one after the other: what was read so far, and what the next file makes of it.
 use Rattle.std.proofs.Common.{◌≡◌, ◌+◌, ◌-◌, ◌≤◌, ℕ, suc, true, false, List, [], ◌∷◌, ◌++◌, length, drop, Option, Some, None, Result, Ok, Err, refl, sym, ◌∙◌, ap, subst, inl, inr, append_assoc, append-nil, arith}
-use Rattle.std.proofs.lemmas.Bool.{le-leb, lt-leb}
-use Rattle.std.specs.Prelude.{nat_le}
 use Rattle.sdc_base.specs.declared.memory.At.{At}
 use Rattle.sdc_base.specs.declared.whole.TheConstants.{MOST_BYTES}
 use Rattle.sdc_base.specs.Files.{Reading, bytes_of, ReadsWhole}
@@ -12,25 +10,17 @@ use Rattle.source_types.specs.declared.command_lines.CommandLine.{CommandLine}
 use Rattle.source_types.specs.declared.kinds.Fault.{Fault}
 use Rattle.source_types.specs.declared.kinds.Kind.{Kind}
 use Rattle.timing_types.specs.declared.modes.Mode.{Mode}
-use Rattle.sdc_model.specs.ModeFiles.{SayModes, SaysFile, with_first}
+use Rattle.sdc_model.specs.ModeFiles.{SayModes, SaysFile, fault_of, with_first}
+use Rattle.sdc_model.specs.ModeMeaning.{Said}
+use Rattle.sdc_cli.proofs.HostSteps.{limit_behind}
 use Rattle.sdc_model.specs.Answers.{OnTold, FailsReading, files_of, first_place, most_clocks}
 use Rattle.sdc_cli.specs.ModeBytes.{SaysAtMost}
 use Rattle.sdc_cli.specs.Steps.{ReadsMode, ReadsModes}
 
 -- what the bytes of a file say, in the words of all files
-file_says_mode : (most count : ℕ) (bytes : List ℕ) (mode : Mode) → count ≤ most → length bytes ≤ MOST_BYTES → SaysAtMost (most - count) bytes (Ok mode)
-    → SaysFile most count bytes (Ok mode)
-file_says_mode most count bytes mode within short says =
-    let few : nat_le (count + length mode.clocks) most ≡ true = le-leb (count + length mode.clocks) most (omega (arith, says.1)) in
-    inr (short, (Ok mode, says.0, rw few refl))
-
-file_says_fault : (most count : ℕ) (bytes : List ℕ) (fault : At Kind) → count ≤ most → length bytes ≤ MOST_BYTES → SaysAtMost (most - count) bytes (Err fault)
-    → SaysFile most count bytes (Err fault.kind)
-file_says_fault most count bytes fault within short (inl says) = inr (short, (Err fault.kind, says, refl))
-file_says_fault most count bytes fault within short (inr more) =
-    let mode = more.0.0 in
-    let many : nat_le (count + length mode.clocks) most ≡ false = lt-leb (count + length mode.clocks) most (omega (arith, more.0.2)) in
-    inr (short, (Ok mode, more.0.1, rw many (ap (λ (kind : Kind). Err kind) more.1)))
+file_says : (most count : ℕ) (bytes : List ℕ) (outcome : Said) → count ≤ most → length bytes ≤ MOST_BYTES → SaysAtMost (most - count) bytes outcome
+    → SaysFile most count bytes outcome
+file_says most count bytes outcome within short says = inr (short, (says.0, says.1, says.2 ∙ limit_behind most count says.0 within))
 
 -- and where the file was read whole
 pub told_mode : (most count place : ℕ) (name bytes : List ℕ) (mode : Mode) (before after : Option Reading)
@@ -40,7 +30,7 @@ told_mode most count place name bytes mode None None within whole says = tt
 told_mode most count place name bytes mode None (Some after) within whole says = whole
 told_mode most count place name bytes mode (Some before) None within whole says = whole
 told_mode most count place name bytes mode (Some before) (Some after) within whole says =
-    (whole.0, whole.1, file_says_mode most count (bytes_of before.files name) mode within whole.2.1 (subst (λ (b : List ℕ). SaysAtMost (most - count) b (Ok mode)) whole.2.0 says))
+    (whole.0, whole.1, file_says most count (bytes_of before.files name) (Ok mode) within whole.2.1 (subst (λ (b : List ℕ). SaysAtMost (most - count) b (Ok mode)) whole.2.0 says))
 
 pub told_fault : (most count place : ℕ) (name bytes : List ℕ) (fault : At Kind) (before after : Option Reading)
     → count ≤ most → ReadsWhole name (Ok bytes) before after → SaysAtMost (most - count) bytes (Err fault)
@@ -49,7 +39,7 @@ told_fault most count place name bytes fault None None within whole says = tt
 told_fault most count place name bytes fault None (Some after) within whole says = whole
 told_fault most count place name bytes fault (Some before) None within whole says = whole
 told_fault most count place name bytes fault (Some before) (Some after) within whole says =
-    (whole.0, refl, file_says_fault most count (bytes_of before.files name) fault within whole.2.1 (subst (λ (b : List ℕ). SaysAtMost (most - count) b (Err fault)) whole.2.0 says))
+    (whole.0, refl, file_says most count (bytes_of before.files name) (Err fault) within whole.2.1 (subst (λ (b : List ℕ). SaysAtMost (most - count) b (Err fault)) whole.2.0 says))
 
 -- modes in front of what other files say
 abbrev pub in_front : List Mode → Result (List Mode) Fault → Result (List Mode) Fault
@@ -110,8 +100,11 @@ stops : (line : CommandLine) (name : List ℕ) (at place count : ℕ) (modes : L
     → ReadsMode (most_clocks line) count place name (Err answer) now after
     → ReadsModes line (Err answer) before after
 stops line name at place count modes (status.Source fault) before now after here so_far reads =
-    let says : SaysFile (most_clocks line) count (bytes_of before.files name) (Err fault.kind) = subst (λ (files : List NamedBytes). SaysFile (most_clocks line) count (bytes_of files name) (Err fault.kind)) so_far.files reads.2 in
-    (reads.0 ∙ so_far.files, so_far.say (Err fault) (subst (λ (left : List (List ℕ)). SayModes (most_clocks line) before.files place count left (Err fault)) (sym here) (Err fault.kind, says, (reads.1, refl))))
+    let at_line : At Kind = record { line = fault.line; kind = fault.kind } in
+    let says : SaysFile (most_clocks line) count (bytes_of before.files name) (Err at_line) =
+    subst (λ (files : List NamedBytes). SaysFile (most_clocks line) count (bytes_of files name) (Err at_line)) so_far.files reads.2 in
+    let same : Err fault ≡ Err (fault_of place at_line) = ap (λ n. Err (record { file = n; line = fault.line; kind = fault.kind })) reads.1 in
+    (reads.0 ∙ so_far.files, so_far.say (Err fault) (subst (λ (left : List (List ℕ)). SayModes (most_clocks line) before.files place count left (Err fault)) (sym here) (Err at_line, says, same)))
 stops line name at place count modes (status.ReadFault failed) before now after here so_far reads =
     (reads.0 ∙ so_far.files, so_far.fails failed after.begun (subst (λ (left : List (List ℕ)). FailsReading (most_clocks line) before.files place count now.begun left failed after.begun) (sym here) (inl (reads.1, reads.2))))
 stops line name at place count modes status.Done before now after here so_far reads = reads ∙ so_far.files

@@ -1,6 +1,6 @@
 -- A command line has one output, or is too large by one length, and never both.
-use Rattle.std.proofs.Common.{◌≡◌, ◌∙◌, ◌<◌, ◌≤◌, ℕ, Bool, true, false, List, [], ◌∷◌, Result, Ok, Err, inl, inr, length, sym, ap, subst, arith}
-use Rattle.std.specs.Prelude.{◌+◌, suc, nat_le, if◌then◌else◌, IfOk}
+use Rattle.std.proofs.Common.{◌≡◌, ◌∙◌, ◌<◌, ◌≤◌, ℕ, List, [], ◌∷◌, Result, Ok, Err, inl, inr, length, sym, ap, subst, arith}
+use Rattle.std.specs.Prelude.{◌+◌, suc, Option, Some, None, IfOk}
 use Rattle.sdc_base.specs.declared.outside.NamedBytes.{NamedBytes}
 use Rattle.sdc_base.specs.declared.whole.TheConstants.{MOST_BYTES}
 use Rattle.sdc_base.specs.Files.{Reading, bytes_of}
@@ -8,16 +8,13 @@ use Rattle.source_types.specs.declared.command_lines.CommandLine.{CommandLine}
 use Rattle.source_types.specs.declared.command_lines.CommandLine.TheVariants.{Edges, Merge}
 use Rattle.source_types.specs.declared.command_lines.Output.{Output}
 use Rattle.source_types.specs.declared.kinds.Fault.{Fault}
-use Rattle.source_types.specs.declared.kinds.Kind.{Kind}
-use Rattle.source_types.specs.declared.kinds.Kind.TheVariants.{Sdc}
-use Rattle.source_types.specs.declared.kinds.SdcKind.TheVariants.{TooMany}
 use Rattle.timing_types.specs.declared.merges.Merged.{Merged}
 use Rattle.timing_types.specs.declared.modes.Mode.{Mode}
 use Rattle.sdc_model.specs.Answers.{LineModes, files_of, first_place, most_clocks}
-use Rattle.sdc_model.specs.ClockFile.{SaysMode}
 use Rattle.sdc_model.specs.EdgesText.{AreReports}
 use Rattle.sdc_model.specs.MergedMode.{IsMergeOf}
-use Rattle.sdc_model.specs.ModeFiles.{Continues, IsFaultAt, SayModes, SaysFile, with_first, within_limit}
+use Rattle.sdc_model.specs.ModeFiles.{Continues, SayModes, SaysFile, with_first, within_limit}
+use Rattle.sdc_model.specs.ModeMeaning.{Said}
 use Rattle.sdc_model.specs.PrintedFile.{ArePrintableClocks, ModesArePrintable}
 use Rattle.sdc_cli.specs.declared.reports.Report.TheVariants as report
 use Rattle.sdc_cli.specs.Laws.{HasOneAnswer, HasOutput, IsTooLarge, SayPrintableModes}
@@ -28,27 +25,12 @@ use Rattle.sdc_cli.specs.ReportTree.{report_bytes}
 use Rattle.sdc_cli.proofs.OneMerge.{merge_once}
 use Rattle.sdc_cli.proofs.OneOutcome.{line_once}
 use Rattle.sdc_cli.proofs.OneReport.{reports_once}
-use Rattle.sdc_cli.proofs.SaidClocks.{said_is_printable}
+use Rattle.sdc_cli.proofs.SaidClocks.{IsPrintableMode, said_holds, within_keeps}
 
 -- ---- what files say can be printed
 
-abbrev IsPrintableMode : Mode → Type 0
-IsPrintableMode mode = ArePrintableClocks [] mode.clocks
-
-limit_keeps : (test : Bool) (mode said : Mode) → Ok mode ≡ (if test then Ok said else Err (Sdc TooMany)) → IsPrintableMode said → IsPrintableMode mode
-limit_keeps true mode said e printable = let same : mode ≡ said = cc in subst IsPrintableMode (sym same) printable
-limit_keeps false mode said e printable = absurd (cc)
-
-within_keeps : (most count : ℕ) (said : Result Mode Kind) (mode : Mode) → Ok mode ≡ within_limit most count said → IfOk said IsPrintableMode → IsPrintableMode mode
-within_keeps most count (Err kind) mode e printable = absurd (cc)
-within_keeps most count (Ok said) mode e printable = limit_keeps (nat_le (count + length said.clocks) most) mode said e printable
-
-said_holds : (bytes : List ℕ) (said : Result Mode Kind) → SaysMode bytes said → IfOk said IsPrintableMode
-said_holds bytes (Err kind) says = tt
-said_holds bytes (Ok mode) says = said_is_printable says
-
-file_is_printable : (most count : ℕ) (bytes : List ℕ) (file : Result Mode Kind) → SaysFile most count bytes file → IfOk file IsPrintableMode
-file_is_printable most count bytes (Err kind) says = tt
+file_is_printable : (most count : ℕ) (bytes : List ℕ) (file : Said) → SaysFile most count bytes file → IfOk file IsPrintableMode
+file_is_printable most count bytes (Err fault) says = tt
 file_is_printable most count bytes (Ok mode) (inl long) = absurd (cc)
 file_is_printable most count bytes (Ok mode) (inr says) = within_keeps most count says.1.0 mode says.1.2 (said_holds bytes says.1.0 says.1.1)
 
@@ -56,14 +38,10 @@ first_printable : (mode : Mode) (others : Result (List Mode) Fault) → IsPrinta
 first_printable mode (Ok modes) here rest = (here, rest)
 first_printable mode (Err fault) here rest = tt
 
-fault_at : (place : ℕ) (kind : Kind) (outcome : Result (List Mode) Fault) → IsFaultAt place kind outcome → IfOk outcome ModesArePrintable
-fault_at place kind (Ok modes) is = absurd is
-fault_at place kind (Err fault) is = tt
-
-goes_on_printable : (place : ℕ) (file : Result Mode Kind) (Others : Mode → Result (List Mode) Fault → Type 0)
+goes_on_printable : (place : ℕ) (file : Said) (Others : Mode → Result (List Mode) Fault → Type 0)
     → IfOk file IsPrintableMode → ((mode : Mode) (others : Result (List Mode) Fault) → Others mode others → IfOk others ModesArePrintable)
     → (outcome : Result (List Mode) Fault) → Continues place file Others outcome → IfOk outcome ModesArePrintable
-goes_on_printable place (Err kind) Others here rest outcome goes = fault_at place kind outcome goes
+goes_on_printable place (Err fault) Others here rest outcome goes = subst (λ (o : Result (List Mode) Fault). IfOk o ModesArePrintable) (sym goes) tt
 goes_on_printable place (Ok mode) Others here rest outcome goes =
     subst (λ (o : Result (List Mode) Fault). IfOk o ModesArePrintable) (sym goes.2) (first_printable mode goes.0 here (rest mode goes.0 goes.1))
 
@@ -115,8 +93,11 @@ never_both (Merge out files) modes output bytes printable one other =
 
 -- ---- one answer
 
+modes_of_same : (modes others : List Mode) → ◌≡◌ {A = Result (List Mode) Fault} (Ok others) (Ok modes) → others ≡ modes
+modes_of_same modes others e = cc
+
 same_modes : (line : CommandLine) (files : List NamedBytes) (modes others : List Mode) → LineModes line files (Ok modes) → LineModes line files (Ok others) → others ≡ modes
-same_modes line files modes others said said' = line_once line files (Ok others) (Ok modes) said' said
+same_modes line files modes others said said' = modes_of_same modes others (line_once line files (Ok others) (Ok modes) said' said)
 
 pub answer_once : (line : CommandLine) (reading : Reading) → HasOneAnswer line reading
 answer_once line reading = record {

@@ -1,10 +1,10 @@
 -- What a clock file says can be printed, and its edges have relations.
-use Rattle.std.proofs.Common.{◌≡◌, ◌+◌, ◌%◌, ◌^◌, ◌<◌, ◌≤◌, ◌&&◌, ℕ, ℤ, pos, negsuc, Bool, true, false, not, List, [], ◌∷◌, ◌++◌, Option, Some, None, Result, Ok, Err, inl, inr, refl, sym, ap, subst, arith, codes}
+use Rattle.std.proofs.Common.{◌≡◌, ◌+◌, ◌%◌, ◌^◌, ◌<◌, ◌≤◌, ◌&&◌, ℕ, ℤ, pos, negsuc, Bool, true, false, not, List, [], ◌∷◌, ◌++◌, length, Option, Some, None, Result, Ok, Err, inl, inr, refl, sym, ap, subst, arith, codes}
 use Rattle.std.proofs.Math.Nat.{mod-le}
 use Rattle.std.proofs.lemmas.Bool.Decides.{nat_tests}
 use Rattle.std.proofs.lemmas.Int.{ints}
 use Rattle.std.proofs.lemmas.Bool.{and_parts, not-true}
-use Rattle.std.specs.Prelude.{nat_lt, nat_le, if◌then◌else◌}
+use Rattle.std.specs.Prelude.{IfOk, cond, nat_lt, nat_le, if◌then◌else◌}
 use Rattle.std.specs.Option.{IfSome, option_and_then}
 use Rattle.sdc_base.specs.declared.memory.At.{At}
 use Rattle.sdc_base.specs.Number.{read_number}
@@ -12,18 +12,26 @@ use Rattle.timing_types.specs.declared.clocks.Clock.{Clock}
 use Rattle.timing_types.specs.declared.clocks.Form.{Form}
 use Rattle.timing_types.specs.declared.clocks.Form.TheVariants.{Primary}
 use Rattle.timing_types.specs.declared.clocks.Wave.{Wave}
-use Rattle.source_types.specs.declared.commands.Command.{Command}
-use Rattle.source_types.specs.declared.commands.Part.{Part}
-use Rattle.source_types.specs.declared.commands.Word.{Word}
-use Rattle.source_types.specs.declared.kinds.TclKind.{TclKind}
+use Rattle.source_types.specs.declared.kinds.Kind.{Kind}
+use Rattle.source_types.specs.declared.kinds.SdcKind.{SdcKind}
+use Rattle.source_types.specs.declared.kinds.SdcKind.TheVariants.{OutOfProfile, TooMany}
 use Rattle.timing_types.specs.declared.modes.Mode.{Mode}
-use Rattle.sdc_model.specs.ClockFile.{SoFar, is_name, is_taken, virtual_clock, with_clock, wave_given, plain_clock, waved_clock, create_clock, grouped, group_words, set_clock_groups, keep_for, does_named, does, do_all, clock_mode, or_fault, mode_of, SaysMode}
+use Rattle.timing_types.specs.declared.objects.Object.{Object}
+use Rattle.timing_types.specs.declared.objects.Value.{Value}
+use Rattle.sdc_model.specs.ClockCommands.{ClockOptions, clock_by, clock_given, clock_of, clock_options, clock_waved, clocks_named, groups_of, is_unit, most_file_clocks, no_options, value_texts}
+use Rattle.sdc_model.specs.ClockFile.{SoFar, clock_mode, is_name, is_taken, nothing, virtual_clock, wave_given}
+use Rattle.sdc_model.specs.HostCalls.{Answered}
+use Rattle.sdc_model.specs.ModeFiles.{or_too_many, within_limit}
+use Rattle.sdc_model.specs.ModeHost.{Answer, IsAnswered, adds_clock, adds_groups, answer, gives_clocks, keeps_where, mode_host}
+use Rattle.sdc_model.specs.ModeMeaning.{Said, SaysMode, said_of}
+use Rattle.sdc_model.specs.RunLimits.{line_beyond}
 use Rattle.sdc_model.specs.EdgesText.{AreTimed, edges_of, HaveTimes}
 use Rattle.sdc_model.specs.ListReading.{items_of}
-use Rattle.sdc_model.specs.PrintedFile.{ArePrintableClocks, IsPrintableWave}
+use Rattle.sdc_model.specs.PrintedFile.{ArePrintableClocks, IsPrintableClock, IsPrintableWave}
 use Rattle.sdc_model.specs.Relation.{IsEdgeOf}
-use Rattle.sdc_model.specs.ClockGroups.{group_of}
-use Rattle.sdc_model.specs.Words.{only_text, is_text}
+use Rattle.sdc_model.specs.Words.{same_text}
+use Rattle.sdc_cli.specs.ModeBytes.{SaysAtMost}
+use Rattle.tcl_eval.proofs.KeptRuns.{HostKeeps, runs_keep}
 use Rattle.sdc_print.proofs.PrintableFacts.{one_more}
 use Rattle.sdc_model.specs.Waveform.{limited_time, time_from, nanoseconds, period_of, plain_wave, moved_down, wave_within, wave_of, waveform_of}
 
@@ -43,11 +51,6 @@ each_holds P f (Some a) p = p a
 tested_holds : {A : Type 0} (P : A → Type 0) (test : Bool) (o : Option A) → (test ≡ true → IfSome o P) → IfSome (if test then o else None) P
 tested_holds P true o p = p refl
 tested_holds P false o p = tt
-
--- an answer of either branch
-either_holds : {A : Type 0} (P : A → Type 0) (test : Bool) (o other : Option A) → IfSome o P → IfSome other P → IfSome (if test then o else other) P
-either_holds P true o other p q = p
-either_holds P false o other p q = q
 
 -- ---- waveforms
 
@@ -105,79 +108,106 @@ wave_given-holds period (Some waveform) =
 abbrev IsPrintableSoFar : SoFar → Type 0
 IsPrintableSoFar so_far = ArePrintableClocks [] so_far.clocks
 
-with_clock-keeps : (so_far : SoFar) (line : ℕ) (name : List ℕ) (wave : Option Wave) → IsPrintableSoFar so_far → IfSome wave IsPrintableWave → IfSome (with_clock so_far line name wave) IsPrintableSoFar
-with_clock-keeps so_far line name wave k w =
-    tested_holds IsPrintableSoFar (is_name name && not (is_taken name so_far.clocks)) _
-    (λ h. let t = and_parts (is_name name) (not (is_taken name so_far.clocks)) h in
-    then_holds IsPrintableWave IsPrintableSoFar (λ w. Some (record so_far { clocks = so_far.clocks ++ virtual_clock line name w ∷ [] })) wave w
-    (λ v p. one_more [] so_far.clocks (virtual_clock line name v) k (v, refl, p, t.0) (not-true (is_taken name so_far.clocks) t.1)))
+-- a clock is printable, and its name is new
+abbrev IsNew : List Clock → Clock → Type 0
+IsNew clocks clock = IsPrintableClock clock × (is_taken clock.name clocks ≡ false)
 
-plain_clock-keeps : (so_far : SoFar) (line : ℕ) (name period : List Part) → IsPrintableSoFar so_far → IfSome (plain_clock so_far line name period) IsPrintableSoFar
-plain_clock-keeps so_far line name period k =
-    each_holds IsPrintableSoFar _ (only_text name) (λ n. each_holds IsPrintableSoFar _ (only_text period)
-    (λ p. with_clock-keeps so_far line n (wave_given p None) k (wave_given-holds p None)))
+new_step : (clocks : List Clock) (line : ℕ) (name : List ℕ) (wave : Wave) (t u : Bool) → IsPrintableWave wave → (is_name name && not (is_taken name clocks)) ≡ t
+    → IfOk (cond t (cond u (Ok (virtual_clock line name wave)) (Err TooMany)) (Err OutOfProfile)) (IsNew clocks)
+new_step clocks line name wave true true w e =
+    let p = and_parts (is_name name) (not (is_taken name clocks)) e in
+    ((wave, refl, w, p.0), not-true (is_taken name clocks) p.1)
+new_step clocks line name wave true false w e = tt
+new_step clocks line name wave false u w e = tt
 
-waved_clock-keeps : (so_far : SoFar) (line : ℕ) (name period waveform : List Part) → IsPrintableSoFar so_far → IfSome (waved_clock so_far line name period waveform) IsPrintableSoFar
-waved_clock-keeps so_far line name period waveform k =
-    each_holds IsPrintableSoFar _ (only_text name) (λ n. each_holds IsPrintableSoFar _ (only_text period) (λ p. each_holds IsPrintableSoFar _ (only_text waveform)
-    (λ w. with_clock-keeps so_far line n (wave_given p (Some w)) k (wave_given-holds p (Some w)))))
+clock_waved-new : (clocks : List Clock) (line : ℕ) (name : List ℕ) (wave : Option Wave) → IfSome wave IsPrintableWave → IfOk (clock_waved clocks line name wave) (IsNew clocks)
+clock_waved-new clocks line name None w = tt
+clock_waved-new clocks line name (Some wave) w =
+    new_step clocks line name wave (is_name name && not (is_taken name clocks)) (nat_lt (length clocks) most_file_clocks) w refl
 
-create_clock-keeps : (so_far : SoFar) (line : ℕ) (arguments : List Word) → IsPrintableSoFar so_far → IfSome (create_clock so_far line arguments) IsPrintableSoFar
-create_clock-keeps so_far line (name_option ∷ name ∷ period_option ∷ period ∷ []) k =
-    tested_holds IsPrintableSoFar _ _ (λ h. plain_clock-keeps so_far line name.parts period.parts k)
-create_clock-keeps so_far line (name_option ∷ name ∷ period_option ∷ period ∷ wave_option ∷ wave ∷ []) k =
-    tested_holds IsPrintableSoFar _ _ (λ h. waved_clock-keeps so_far line name.parts period.parts wave.parts k)
-create_clock-keeps so_far line _ k = tt
+clock_given-new : (clocks : List Clock) (line : ℕ) (name period waveform : Option (List ℕ)) → IfOk (clock_given clocks line name period waveform) (IsNew clocks)
+clock_given-new clocks line (Some name) (Some period) waveform = clock_waved-new clocks line name (wave_given period waveform) (wave_given-holds period waveform)
+clock_given-new clocks line _ _ waveform = tt
 
-grouped-keeps : (so_far : SoFar) (first second : List Part) → IsPrintableSoFar so_far → IfSome (grouped so_far first second) IsPrintableSoFar
-unfolding grouped
-grouped-keeps so_far first second k =
-    each_holds IsPrintableSoFar _ (group_of so_far.clocks first) (λ f. each_holds IsPrintableSoFar _ (group_of so_far.clocks second) (λ s. k))
+clock_by-new : (clocks : List Clock) (line : ℕ) (given : Option ClockOptions) → IfOk (clock_by clocks line given) (IsNew clocks)
+clock_by-new clocks line None = tt
+clock_by-new clocks line (Some given) = clock_given-new clocks line given.name given.period given.waveform
 
-set_clock_groups-keeps : (so_far : SoFar) (arguments : List Word) → IsPrintableSoFar so_far → IfSome (set_clock_groups so_far arguments) IsPrintableSoFar
-set_clock_groups-keeps so_far arguments k = each_holds IsPrintableSoFar _ (group_words arguments) (λ words. grouped-keeps so_far words.0.parts words.1.parts k)
+-- ---- answers of the host
 
-keep_for-keeps : (first second : List ℕ) (so_far : SoFar) (arguments : List Word) → IsPrintableSoFar so_far → IfSome (keep_for first second so_far arguments) IsPrintableSoFar
-keep_for-keeps first second so_far (one ∷ two ∷ []) k = tested_holds IsPrintableSoFar _ (Some so_far) (λ h. k)
-keep_for-keeps first second so_far _ k = tt
+-- what stands behind an answer can be printed
+abbrev GivesPrintable : Answer → Type 0
+GivesPrintable told = IfOk told (λ done. IsPrintableSoFar done.1)
 
--- ---- commands
+adds_clock-keeps : (so_far : SoFar) (made : Result Clock SdcKind) → IsPrintableSoFar so_far → IfOk made (IsNew so_far.clocks) → GivesPrintable (adds_clock so_far made)
+adds_clock-keeps so_far (Ok clock) k new = one_more [] so_far.clocks clock k new.0 new.1
+adds_clock-keeps so_far (Err kind) k new = tt
 
-does_named-keeps : (so_far : SoFar) (line : ℕ) (name : List Part) (arguments : List Word) → IsPrintableSoFar so_far → IfSome (does_named so_far line name arguments) IsPrintableSoFar
-does_named-keeps so_far line name arguments k =
-    either_holds IsPrintableSoFar (is_text name (codes "create_clock")) _ _ (create_clock-keeps so_far line arguments k)
-    (either_holds IsPrintableSoFar (is_text name (codes "set_clock_groups")) _ _ (set_clock_groups-keeps so_far arguments k)
-    (either_holds IsPrintableSoFar (is_text name (codes "set_units")) _ _ (keep_for-keeps (codes "-time") (codes "1ns") so_far arguments k)
-    (tested_holds IsPrintableSoFar (is_text name (codes "set")) _ (λ h. keep_for-keeps (codes "sdc_version") (codes "2.1") so_far arguments k))))
+adds_groups-keeps : (so_far : SoFar) (groups : Option (List (List ℕ))) → IsPrintableSoFar so_far → GivesPrintable (adds_groups so_far groups)
+adds_groups-keeps so_far None k = tt
+adds_groups-keeps so_far (Some groups) k = k
 
-does-keeps : (so_far : SoFar) (line : ℕ) (words : List Word) → IsPrintableSoFar so_far → IfSome (does so_far line words) IsPrintableSoFar
-does-keeps so_far line [] k = tt
-does-keeps so_far line (command ∷ arguments) k = does_named-keeps so_far line command.parts arguments k
+keeps_where-keeps : (so_far : SoFar) (test : Bool) → IsPrintableSoFar so_far → GivesPrintable (keeps_where so_far test)
+keeps_where-keeps so_far true k = k
+keeps_where-keeps so_far false k = tt
 
-do_all-keeps : (so_far : SoFar) (commands : List Command) → IsPrintableSoFar so_far → IfSome (do_all so_far commands) IsPrintableSoFar
-do_all-keeps so_far [] k = k
-do_all-keeps so_far (command ∷ commands) k =
-    then_holds IsPrintableSoFar IsPrintableSoFar (λ next. do_all next commands) (does so_far command.line command.words) (does-keeps so_far command.line command.words k)
-    (λ next n. do_all-keeps next commands n)
+gives_clocks-keeps : (so_far : SoFar) (objects : Option (List Object)) → IsPrintableSoFar so_far → GivesPrintable (gives_clocks so_far objects)
+gives_clocks-keeps so_far None k = tt
+gives_clocks-keeps so_far (Some objects) k = k
+
+either_gives : (t : Bool) (a b : Answer) → GivesPrintable a → GivesPrintable b → GivesPrintable (cond t a b)
+either_gives true a b p q = p
+either_gives false a b p q = q
+
+answer-keeps : (so_far : SoFar) (line : ℕ) (name : List ℕ) (words : List Value) → IsPrintableSoFar so_far → GivesPrintable (answer so_far line name words)
+answer-keeps so_far line name words k =
+    either_gives (same_text name (codes "create_clock")) _ _
+    (adds_clock-keeps so_far (clock_of so_far.clocks line words) k (clock_by-new so_far.clocks line (clock_options no_options (value_texts so_far.clocks words))))
+    (either_gives (same_text name (codes "set_clock_groups")) _ _ (adds_groups-keeps so_far (groups_of so_far.clocks words) k)
+    (either_gives (same_text name (codes "set_units")) _ _ (keeps_where-keeps so_far (is_unit (value_texts so_far.clocks words)) k)
+    (either_gives (same_text name (codes "get_clocks")) _ _ (gives_clocks-keeps so_far (clocks_named so_far.clocks words) k) tt)))
+
+answered-keeps : (told : Answer) (before : SoFar) (given : Result Value Kind) (after : SoFar) → IsAnswered told before given after → GivesPrintable told → IsPrintableSoFar before → IsPrintableSoFar after
+answered-keeps (Ok told) before given after t p k = subst IsPrintableSoFar (sym t.1) p
+answered-keeps (Err kind) before given after t p k = subst IsPrintableSoFar (sym t.1) k
+
+host-keeps : HostKeeps IsPrintableSoFar mode_host
+host-keeps line name words before (Ok given) after t k = answered-keeps (answer before line name words) before (Ok given) after t (answer-keeps before line name words k) k
+host-keeps line name words before (Err fault) after t k = subst IsPrintableSoFar (sym t.1) k
 
 -- ---- what a file says
 
-outcome_is_printable : (outcome : Option SoFar) (mode : Mode) → IfSome outcome IsPrintableSoFar → Ok mode ≡ or_fault outcome → ArePrintableClocks [] mode.clocks
-outcome_is_printable None mode k e = absurd (cc)
-outcome_is_printable (Some so_far) mode k e =
+said_of-is : (told : Result Unit (At Kind)) (so_far : SoFar) (mode : Mode) → IsPrintableSoFar so_far → Ok mode ≡ said_of told so_far → ArePrintableClocks [] mode.clocks
+said_of-is (Ok done) so_far mode k e =
     let same : mode ≡ clock_mode so_far = cc in
     subst (λ (m : Mode). ArePrintableClocks [] m.clocks) (sym same) k
-
-split_is_printable : (split : Result (List Command) (At TclKind)) (mode : Mode) → Ok mode ≡ mode_of split → ArePrintableClocks [] mode.clocks
-split_is_printable (Err fault) mode e = absurd (cc)
-split_is_printable (Ok commands) mode e =
-    let nothing : SoFar = record { clocks = []; groups = [] } in
-    outcome_is_printable (do_all nothing commands) mode (do_all-keeps nothing commands tt) e
+said_of-is (Err fault) so_far mode k e = absurd (cc)
 
 -- the clocks that a file says can be printed
 pub said_is_printable : {bytes : List ℕ} {mode : Mode} → SaysMode bytes (Ok mode) → ArePrintableClocks [] mode.clocks
-said_is_printable {bytes = bytes} {mode = mode} (inl said) = split_is_printable said.1.0 mode said.1.2
+said_is_printable {bytes = bytes} {mode = mode} (inl says) =
+    said_of-is says.1.0 says.1.1 mode (runs_keep IsPrintableSoFar mode_host host-keeps bytes nothing says.1.0 says.1.1 says.1.2 tt) says.1.3
 said_is_printable {bytes = bytes} {mode = mode} (inr other) = absurd (cc)
+
+-- the same of modes that are within a limit
+abbrev pub IsPrintableMode : Mode → Type 0
+IsPrintableMode mode = ArePrintableClocks [] mode.clocks
+
+many_keeps : (said mode : Mode) (line : Option ℕ) → Ok mode ≡ or_too_many said line → IsPrintableMode said → IsPrintableMode mode
+many_keeps said mode None e printable = let same : mode ≡ said = cc in subst IsPrintableMode (sym same) printable
+many_keeps said mode (Some line) e printable = absurd (cc)
+
+pub within_keeps : (most count : ℕ) (said : Said) (mode : Mode) → Ok mode ≡ within_limit most count said → IfOk said IsPrintableMode → IsPrintableMode mode
+within_keeps most count (Err fault) mode e printable = absurd (cc)
+within_keeps most count (Ok said) mode e printable =
+    many_keeps said mode (line_beyond (λ (clock : Clock). clock.line) (λ clock. 1) most count said.clocks) e printable
+
+pub said_holds : (bytes : List ℕ) (said : Said) → SaysMode bytes said → IfOk said IsPrintableMode
+said_holds bytes (Err fault) says = tt
+said_holds bytes (Ok mode) says = said_is_printable says
+
+pub most_is_printable : (most : ℕ) (bytes : List ℕ) (mode : Mode) → SaysAtMost most bytes (Ok mode) → ArePrintableClocks [] mode.clocks
+most_is_printable most bytes mode says = within_keeps most 0 says.0 mode says.2 (said_holds bytes says.0 says.1)
 
 -- ---- what printable clocks have
 

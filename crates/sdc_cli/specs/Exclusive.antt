@@ -12,7 +12,17 @@ use Rattle.sdc_model.specs.ClockGroups.{Groups, is_among}
 abbrev pub AreBelow : ℕ → List ℕ → Type 0
 AreBelow count places = (place : ℕ) → is_among place places ≡ true → place < count
 
--- the places of all groups are
+-- the places of all groups of a command are
+abbrev pub AllBelow : ℕ → List (List ℕ) → Type 0
+AllBelow count [] = Unit {0}
+AllBelow count (group ∷ groups) = AreBelow count group × AllBelow count groups
+
+-- the places of the groups of all commands are
+abbrev pub CommandsBelow : ℕ → List (List (List ℕ)) → Type 0
+CommandsBelow count [] = Unit {0}
+CommandsBelow count (groups ∷ commands) = AllBelow count groups × CommandsBelow count commands
+
+-- the places of groups that stand against each other are
 abbrev pub GroupsBelow : ℕ → List Groups → Type 0
 GroupsBelow count [] = Unit {0}
 GroupsBelow count (groups ∷ others) = AreBelow count groups.first × AreBelow count groups.second × GroupsBelow count others
@@ -41,7 +51,11 @@ parts_some i js pair = list_any (λ j. parts i j pair) js
 abbrev pub parts_any : List ℕ → List ℕ → Pair → Bool
 parts_any is js pair = list_any (λ i. parts_some i js pair) is
 
--- a pair is one of some command
+-- a pair is one of a group and one of others
+abbrev pub parts_each : List ℕ → List (List ℕ) → Pair → Bool
+parts_each group others pair = list_any (λ other. parts_any group other pair) others
+
+-- a pair is one of two groups that stand against each other
 abbrev pub parts_in : List Groups → Pair → Bool
 parts_in groups pair = list_any (λ g. parts_any g.first g.second pair) groups
 

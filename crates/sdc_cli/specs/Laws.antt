@@ -14,16 +14,10 @@ use Rattle.sdc_model.specs.MergedMode.{IsMergeOf}
 use Rattle.sdc_model.specs.PrintedFile.{ModesArePrintable}
 use Rattle.sdc_cli.specs.Outputs.{IsOutputOf, IsTooLargeOf}
 
--- the same modes, or a fault of the same file and kind; of its line nothing is said
-abbrev pub AreSame : Result (List Mode) Fault → Result (List Mode) Fault → Type 0
-AreSame (Ok modes) (Ok others) = modes ≡ others
-AreSame (Err fault) (Err other) = (fault.file ≡ other.file) × (fault.kind ≡ other.kind)
-AreSame _ _ = ⊥
-
 -- two outcomes of the files of a command line are one
 abbrev pub HasOneOutcome : CommandLine → List NamedBytes → Type 0
 HasOneOutcome line files =
-    (r s : Result (List Mode) Fault) → LineModes line files r → LineModes line files s → AreSame r s
+    (r s : Result (List Mode) Fault) → LineModes line files r → LineModes line files s → r ≡ s
 
 -- two reports of the same files and modes are one
 abbrev pub HaveOneReport : List (List ℕ) → List Mode → Type 0

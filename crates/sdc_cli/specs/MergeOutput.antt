@@ -7,7 +7,7 @@ use Rattle.source_types.specs.declared.command_lines.Output.{Output}
 use Rattle.timing_types.specs.declared.designs.Design.{Design}
 use Rattle.timing_types.specs.declared.merges.Merged.{Merged}
 use Rattle.timing_types.specs.declared.modes.Mode.{Mode}
-use Rattle.sdc_model.specs.ClockFile.{SaysMode}
+use Rattle.sdc_model.specs.ModeMeaning.{SaysMode}
 use Rattle.sdc_model.specs.MergedMode.{IsMergeOf}
 use Rattle.sdc_model.specs.PrintedFile.{printed_file, without_lines}
 use Rattle.sdc_cli.specs.declared.reports.Report.TheVariants.{Merge}

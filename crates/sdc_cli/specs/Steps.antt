@@ -19,7 +19,8 @@ abbrev pub ReadsMode : ℕ → ℕ → ℕ → List ℕ → Result Mode Status �
 ReadsMode most count place name (Ok mode) before after =
     (after.files ≡ before.files) × (after.begun ≡ Some name) × SaysFile most count (bytes_of before.files name) (Ok mode)
 ReadsMode most count place name (Err (status.Source fault)) before after =
-    (after.files ≡ before.files) × (fault.file ≡ place) × SaysFile most count (bytes_of before.files name) (Err fault.kind)
+    (after.files ≡ before.files) × (fault.file ≡ place)
+    × SaysFile most count (bytes_of before.files name) (Err (record { line = fault.line; kind = fault.kind }))
 ReadsMode most count place name (Err (status.ReadFault failed)) before after =
     (after.files ≡ before.files) × (failed ≡ place) × ((after.begun ≡ Some name) ⊎ (after.begun ≡ before.begun))
 ReadsMode most count place name (Err _) before after = after.files ≡ before.files

@@ -1,70 +1,217 @@
-//! Groups of clocks (SDC 2.1, `set_clock_groups`).
+//! Groups of clocks (SDC 2.1, `set_clock_groups`), by the words behind the command's name.
 
-ghost use Rattle.std.specs.Prelude.{◌≡◌, ℕ, List, IfOk, codes};
-ghost use Rattle.std.specs.Option.{option_and_then, option_copied};
-ghost use Rattle.sdc_model.specs.ClockGroups.{places_of, places_in, group_of, query_list, query_braces, behind_query, from_brace};
+ghost use Rattle.std.specs.Prelude.{◌≡◌, ◌==◌, length, IfOk};
+ghost use Rattle.std.specs.List.{list_any};
+ghost use Rattle.sdc_model.specs.ClockCommands.{group_options, groups_given, groups_of, groups_placed, no_groups, with_effect, with_group_word};
+ghost use Rattle.sdc_model.specs.ClockGroups.{clock_place, clock_places, group_of, places_in, places_of};
 
-use crate::items::{behind_blanks, items_of};
+use crate::items::items_of;
 use crate::named_clocks::NamedClocks;
-use sdc_base::{List, NoMemory, Text};
-use sdc_model::{Part, Word};
+use crate::object_names::value_text;
+use sdc_base::{Duplicate, List, NoMemory, Text};
+use sdc_model::{Clock, Object, Value};
 use std::alloc::Global;
 use std::marker::Model;
 
-/// The two groups of a command, as places of clocks. Contracts see `Groups`.
+/// The options of groups that are given. Contracts see `GroupOptions`.
 #[derive(Drop)]
-pub struct TwoGroups {
-    pub first: List<u32>,
-    pub second: List<u32>,
+struct GivenGroups {
+    asynchronous: bool,
+    groups: List<Value>,
+    expects: bool,
 }
 
-impl Model for TwoGroups {
-    ghost use Rattle.sdc_model.specs.ClockGroups.{Groups};
+impl Model for GivenGroups {
+    ghost use Rattle.sdc_model.specs.ClockCommands.{GroupOptions};
 
-    ghost Value = { Groups };
+    ghost Value = { GroupOptions };
 
-    ghost view = { λ groups. record { first = groups.first; second = groups.second } };
+    ghost view = { λ it. record { asynchronous = it.asynchronous; groups = it.groups; expects = it.expects } };
 }
 
-/// The places of the clocks of a group: a list of names (Tcl), or a query of such a list in braces; `None` where it
-/// is neither of these or a name is no clock's. The one error is want of memory.
-pub fn group_of(
+/// The groups of a command as places of clocks, by the words behind its name: `-asynchronous` and at least one group, in any
+/// order; `None` where they are not these or a name is no clock's. None of the groups counts where one is empty. The one
+/// error is want of memory.
+pub fn groups_of(
     alloc: Global,
     clocks: &NamedClocks,
-    word: &Word,
-) -> Result<Option<List<u32>>, NoMemory>
-    ensures { IfOk result (λ group. group ≡ group_of clocks.now word.now.parts) }
+    words: &[Value],
+) -> Result<Option<List<List<u32>>>, NoMemory>
+    ensures { IfOk result (λ groups. groups ≡ groups_of clocks.now words.now) }
 {
-    match word.parts.as_slice() {
-        [Part::Text(names)] => places_in(alloc, clocks, names.as_str()),
-        [Part::Script(script)] => places_in_query(alloc, clocks, script.as_str()),
-        _ => Ok(None),
+    let Some(given) = group_options(alloc, clocks, words)? else {
+        return Ok(None);
+    };
+    groups_given(alloc, clocks, &given)
+}
+
+/// The options of these words. The one error is want of memory.
+fn group_options(
+    alloc: Global,
+    clocks: &NamedClocks,
+    words: &[Value],
+) -> Result<Option<GivenGroups>, NoMemory>
+    ensures { IfOk result (λ given. given ≡ group_options clocks.now no_groups words.now) }
+{
+    let mut given = GivenGroups {
+        asynchronous: false,
+        groups: List::new(alloc),
+        expects: false,
+    };
+    for word in words {
+        let Some(next) = with_word(alloc, clocks.as_slice(), given, word)? else {
+            return Ok(None);
+        };
+        given = next;
+    }
+    if given.expects {
+        Ok(None)
+    } else {
+        Ok(Some(given))
     }
 }
 
-/// The places of the clocks of a query of a list of names in braces. The one error is want of memory.
-fn places_in_query(
+/// These options and one more word: a group behind `-group`, or else an option. The one error is want of memory.
+fn with_word(
+    alloc: Global,
+    clocks: &[Clock],
+    given: GivenGroups,
+    word: &Value,
+) -> Result<Option<GivenGroups>, NoMemory>
+    ensures { IfOk result (λ next. next ≡ with_group_word clocks.now given word.now) }
+{
+    let GivenGroups {
+        asynchronous,
+        mut groups,
+        expects,
+    } = given;
+    if expects {
+        groups.push(word.copy(alloc)?)?;
+        return Ok(Some(GivenGroups {
+            asynchronous,
+            groups,
+            expects: false,
+        }));
+    }
+    let option = value_text(alloc, clocks, word)?;
+    if option.as_str() == "-asynchronous" {
+        return Ok(Some(GivenGroups {
+            asynchronous: true,
+            groups,
+            expects: false,
+        }));
+    }
+    if option.as_str() == "-group" {
+        return Ok(Some(GivenGroups {
+            asynchronous,
+            groups,
+            expects: true,
+        }));
+    }
+    Ok(None)
+}
+
+/// The groups of these options. The one error is want of memory.
+fn groups_given(
     alloc: Global,
     clocks: &NamedClocks,
-    script: &str,
-) -> Result<Option<List<u32>>, NoMemory>
+    given: &GivenGroups,
+) -> Result<Option<List<List<u32>>>, NoMemory>
     ensures { IfOk result
-        (λ places. places ≡ option_and_then (places_in clocks.now) (query_list script.now)) }
+        (λ groups. groups ≡ groups_given clocks.now given.now.asynchronous given.now.groups) }
 {
-    let Some(braces) = query_braces(script) else {
-        return Ok(None);
-    };
-    let Some(items) = items_of(alloc, braces)? else {
-        return Ok(None);
-    };
-    match items.as_slice() {
-        [names] => places_in(alloc, clocks, names.as_str()),
+    match given.groups.as_slice() {
+        groups @ [_, ..] if given.asynchronous => {
+            let Some(groups) = groups_placed(alloc, clocks, groups)? else {
+                return Ok(None);
+            };
+            Ok(Some(with_effect(alloc, groups)))
+        }
         _ => Ok(None),
     }
+}
+
+/// Groups as places of clocks; `None` where a name is no clock's. The one error is want of memory.
+fn groups_placed(
+    alloc: Global,
+    clocks: &NamedClocks,
+    groups: &[Value],
+) -> Result<Option<List<List<u32>>>, NoMemory>
+    ensures { IfOk result (λ placed. placed ≡ groups_placed clocks.now groups.now) }
+{
+    let mut placed = List::new(alloc);
+    for group in groups {
+        let Some(places) = group_of(alloc, clocks, group)? else {
+            return Ok(None);
+        };
+        placed.push(places)?;
+    }
+    Ok(Some(placed))
+}
+
+/// These groups, or none where one is empty.
+fn with_effect(alloc: Global, groups: List<List<u32>>) -> List<List<u32>>
+    ensures { result ≡ with_effect groups }
+{
+    if has_empty(groups.as_slice()) {
+        List::new(alloc)
+    } else {
+        groups
+    }
+}
+
+/// Whether a group is empty.
+fn has_empty(groups: &[List<u32>]) -> bool
+    ensures { result ≡ list_any (λ group. length group == 0) groups.now }
+{
+    groups.iter().any(|group| group.as_slice().is_empty())
+}
+
+/// The places of the clocks of a group: a list of names (Tcl), or clocks; `None` where it is neither of these or a name is no
+/// clock's. The one error is want of memory.
+fn group_of(
+    alloc: Global,
+    clocks: &NamedClocks,
+    value: &Value,
+) -> Result<Option<List<u32>>, NoMemory>
+    ensures { IfOk result (λ group. group ≡ group_of clocks.now value.now) }
+{
+    match value {
+        Value::Text(names) => places_in(alloc, clocks, names.as_str()),
+        Value::Objects(objects) => clock_places(alloc, clocks.as_slice().len(), objects.as_slice()),
+    }
+}
+
+/// The place of an object that is a clock, of so many.
+fn clock_place(count: usize, object: &Object) -> Option<u32>
+    ensures { result ≡ clock_place count object.now }
+{
+    match object {
+        Object::Clock(place) if (*place as usize) < count => Some(*place),
+        _ => None,
+    }
+}
+
+/// The places of objects, where each is a clock, of so many. The one error is want of memory.
+fn clock_places(
+    alloc: Global,
+    count: usize,
+    objects: &[Object],
+) -> Result<Option<List<u32>>, NoMemory>
+    ensures { IfOk result (λ places. places ≡ clock_places count objects.now) }
+{
+    let mut places = List::new(alloc);
+    for object in objects {
+        let Some(place) = clock_place(count, object) else {
+            return Ok(None);
+        };
+        places.push(place)?;
+    }
+    Ok(Some(places))
 }
 
 /// The places of the clocks of a list of names (Tcl), where each is a clock's. The one error is want of memory.
-fn places_in(
+pub fn places_in(
     alloc: Global,
     clocks: &NamedClocks,
     names: &str,
@@ -93,32 +240,4 @@ fn places_of(
         places.push(place)?;
     }
     Ok(Some(places))
-}
-
-/// The text of a query `get_clocks {..}` from its brace on.
-fn query_braces(script: &str) -> Option<&str>
-    ensures { option_copied result ≡ query_braces script.now }
-{
-    let rest = behind_blanks(script).strip_prefix("get_clocks")?;
-    behind_query(rest)
-}
-
-/// The text behind the name of a query from its brace on, which stands behind blanks.
-fn behind_query(rest: &str) -> Option<&str>
-    ensures { option_copied result ≡ behind_query rest.now }
-{
-    match rest.as_bytes() {
-        [b' ' | b'\t', ..] => from_brace(behind_blanks(rest)),
-        _ => None,
-    }
-}
-
-/// A text that begins with a brace.
-fn from_brace(text: &str) -> Option<&str>
-    ensures { option_copied result ≡ from_brace text.now }
-{
-    match text.as_bytes() {
-        [b'{', ..] => Some(text),
-        _ => None,
-    }
 }

@@ -7,6 +7,8 @@
 #![tactic(auto)]
 
 mod clock_groups;
+mod clock_options;
+mod clock_queries;
 mod command_line;
 mod edges_report;
 mod exit_numbers;
@@ -22,8 +24,10 @@ mod merge_rows;
 mod merges;
 mod mode_file;
 mod mode_files;
+mod mode_host;
 mod mode_so_far;
 mod named_clocks;
+mod object_names;
 mod outputs;
 #[cfg(test)]
 mod report_tests;

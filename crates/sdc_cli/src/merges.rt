@@ -42,6 +42,7 @@ pub fn merge(
     requires printable { ModesArePrintable modes.now }
     requires few { clocks_in modes.now ≤ 16384 }
     ensures merged { IfOk result (IsMergeOf modes.now) }
+    ensures few { IfOk result (λ merged. length merged.mode.clocks ≤ clocks_in modes.now) }
     ensures stops { IfErr result (λ cause. cause ≡ stop.NoMemory) }
 {
     let views = views_of(alloc, modes.as_slice())?;

@@ -1,41 +1,42 @@
 //! What the commands of a mode file made so far.
 
-ghost use Rattle.std.specs.Prelude.{◌≡◌, [], IfOk};
+ghost use Rattle.std.specs.Prelude.{◌≡◌, ◌++◌, ◌∷◌, [], false, length, IfOk};
 ghost use Rattle.std.specs.List.{list_all};
 ghost use Rattle.sdc_model.specs.Bytes.{is_name_byte};
-ghost use Rattle.sdc_model.specs.ClockFile.{with_clock, grouped, virtual_clock, clock_mode, is_name};
+ghost use Rattle.sdc_model.specs.ClockFile.{virtual_clock, clock_mode, is_name, is_taken, nothing};
+ghost use Rattle.sdc_cli.specs.Exclusive.{AllBelow};
 
-use crate::clock_groups::{TwoGroups, group_of};
 use crate::group_pairs::pairs_of_groups;
 use crate::named_clocks::NamedClocks;
-use sdc_base::{Duplicate, List, NoMemory, Text};
-use sdc_model::{Clock, Early, Form, Latency, Mode, Wave, Word};
+use sdc_base::{List, NoMemory, Text};
+use sdc_model::{Clock, Early, Form, Latency, Mode, Wave};
 use std::alloc::Global;
 use std::marker::Model;
 
-/// The clocks of a mode file so far, and the groups of each command that has some. Contracts see `SoFar`.
+/// The clocks of a mode file so far, and the groups of each command that has some, by the places of their clocks. Contracts
+/// see `SoFar`.
 #[derive(Drop)]
 pub struct ModeSoFar {
     clocks: NamedClocks,
-    groups: List<TwoGroups>,
+    groups: List<List<List<u32>>>,
 }
 
 impl Model for ModeSoFar {
     ghost use Rattle.std.specs.Prelude.{length};
     ghost use Rattle.sdc_model.specs.ClockFile.{SoFar};
-    ghost use Rattle.sdc_cli.specs.Exclusive.{GroupsBelow};
+    ghost use Rattle.sdc_cli.specs.Exclusive.{CommandsBelow};
 
     ghost Value = { SoFar };
 
     ghost view = { λ made. record { clocks = made.clocks; groups = made.groups } };
 
-    ghost invariant = { λ made. GroupsBelow (length made.clocks) made.groups };
+    ghost invariant = { λ made. CommandsBelow (length made.clocks) made.groups };
 }
 
 impl ModeSoFar {
     /// Nothing yet.
     pub fn new(alloc: Global) -> ModeSoFar
-        ensures { result ≡ record { clocks = []; groups = [] } }
+        ensures { result ≡ nothing }
     {
         ModeSoFar {
             clocks: NamedClocks::new(alloc),
@@ -43,49 +44,31 @@ impl ModeSoFar {
         }
     }
 
-    /// This and one more clock, where its name is one and new, and it has a waveform. The one error is want
-    /// of memory.
-    pub fn with_clock(
-        self,
-        alloc: Global,
-        line: u32,
-        name: &Text,
-        wave: Option<Wave>,
-    ) -> Result<Option<ModeSoFar>, NoMemory>
-        ensures { IfOk result (λ next. next ≡ with_clock self line name.now wave) }
+    /// This and one more clock, whose name is new. The one error is want of memory.
+    pub fn with_clock(self, alloc: Global, clock: Clock) -> Result<ModeSoFar, NoMemory>
+        requires { is_taken clock.name self.clocks ≡ false }
+        ensures { IfOk result (λ next. next ≡ record self { clocks = self.clocks ++ clock ∷ [] }) }
     {
         let ModeSoFar { clocks, groups } = self;
-        if !is_name(name.as_bytes()) || clocks.is_taken(name.as_str()) {
-            return Ok(None);
-        }
-        let Some(wave) = wave else {
-            return Ok(None);
-        };
-        let name = name.copy(alloc)?;
-        let clocks = clocks.with(alloc, virtual_clock(alloc, line, name, wave))?;
-        Ok(Some(ModeSoFar { clocks, groups }))
+        let clocks = clocks.with(alloc, clock)?;
+        Ok(ModeSoFar { clocks, groups })
     }
 
-    /// This and the groups of one more command, where the names in both are clocks. The one error is want of
-    /// memory.
-    #[tactic(auto, unfolding(sdc_model::specs::ClockFile::grouped))]
-    pub fn with_groups(
-        self,
-        alloc: Global,
-        first: &Word,
-        second: &Word,
-    ) -> Result<Option<ModeSoFar>, NoMemory>
-        ensures { IfOk result (λ next. next ≡ grouped self first.now.parts second.now.parts) }
+    /// This and the groups of one more command, whose clocks are these. The one error is want of memory.
+    pub fn with_groups(self, more: List<List<u32>>) -> Result<ModeSoFar, NoMemory>
+        requires { AllBelow (length self.clocks) more }
+        ensures { IfOk result (λ next. next ≡ record self { groups = self.groups ++ more ∷ [] }) }
     {
         let ModeSoFar { clocks, mut groups } = self;
-        let Some(first) = group_of(alloc, &clocks, first)? else {
-            return Ok(None);
-        };
-        let Some(second) = group_of(alloc, &clocks, second)? else {
-            return Ok(None);
-        };
-        groups.push(TwoGroups { first, second })?;
-        Ok(Some(ModeSoFar { clocks, groups }))
+        groups.push(more)?;
+        Ok(ModeSoFar { clocks, groups })
+    }
+
+    /// The clocks so far, found by their names.
+    pub fn named(&self) -> &NamedClocks
+        ensures { result.now ≡ self.now.clocks }
+    {
+        &self.clocks
     }
 
     /// The clocks so far, in order.
@@ -101,7 +84,10 @@ impl ModeSoFar {
         ensures { IfOk result (λ mode. mode ≡ clock_mode self) }
     {
         let ModeSoFar { clocks, groups } = self;
-        let exclusive = pairs_of_groups(alloc, groups.as_slice())?;
+        let Ok(count) = u32::try_from(clocks.as_slice().len()) else {
+            return Err(NoMemory);
+        };
+        let exclusive = pairs_of_groups(alloc, groups.as_slice(), count)?;
         Ok(Mode {
             clocks: clocks.into_list(),
             exclusive,
@@ -116,7 +102,7 @@ impl ModeSoFar {
 }
 
 /// A clock without sources, latency and uncertainty.
-fn virtual_clock(alloc: Global, line: u32, name: Text, wave: Wave) -> Clock
+pub fn virtual_clock(alloc: Global, line: u32, name: Text, wave: Wave) -> Clock
     ensures { result ≡ virtual_clock line name wave }
 {
     let none = Early { rise: 0, fall: 0 };
@@ -138,7 +124,7 @@ fn virtual_clock(alloc: Global, line: u32, name: Text, wave: Wave) -> Clock
 }
 
 /// Whether a text is a name: letters, digits and `_`, at least one.
-fn is_name(text: &[u8]) -> bool
+pub fn is_name(text: &[u8]) -> bool
     ensures { result ≡ is_name text.now }
 {
     !text.is_empty() && are_name_bytes(text)

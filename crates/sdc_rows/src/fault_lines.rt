@@ -18,7 +18,7 @@ pub fn has_said(outcome: &Outcome, line: &str) -> bool {
 }
 
 /// Sees how a run of these words over these files ends, whose calls of the outputs take 16 bytes each.
-fn ends(
+pub fn ends(
     rt: &impl Abort,
     alloc: Global,
     words: &str,
@@ -51,7 +51,7 @@ static LINES: [(&str, u8, &str); 12] = [
     ("edges -x", 2, "wrong command line\n"),
     ("merge - - - o", 2, "wrong command line\n"),
     ("edges bad", 3, "bad:1: OutOfProfile\n"),
-    ("edges a.sdc open bad", 3, "open:6: OutOfProfile\n"),
+    ("edges a.sdc open bad", 3, "open:6: Unclosed\n"),
     ("edges a.sdc a.sdc twice", 3, "twice:3: OutOfProfile\n"),
     ("merge - - - bad a.sdc twice", 3, "twice:3: OutOfProfile\n"),
     ("merge --tags 5 - - - o -- bad", 3, "bad:1: OutOfProfile\n"),

@@ -20,3 +20,5 @@ mod merge_length;
 mod merge_words;
 #[cfg(test)]
 mod runs;
+#[cfg(test)]
+mod scripts;

@@ -1,11 +1,15 @@
-use Rattle.std.proofs.Common.{◌≡◌, take, arith, ◌∙◌, ap}
-use Rattle.std.proofs.lemmas.Grind.{common_steps}
-use Rattle.sdc_cli.specs.Exclusive.{parts_in}
+use Rattle.std.proofs.lemmas.List.{drop_all}
+use Rattle.sdc_cli.proofs.EdgeLines.{drop-item}
 use Rattle.sdc_cli.proofs.ExclusiveSteps.{exclusive_answer}
+use Rattle.sdc_cli.proofs.GroupSteps.{leads_end, leads_step}
 use Rattle.sdc_cli.proofs.group_pairs.pairs_of_groups.Goals as goal
+
+pub loop-groups-preserved : goal.loop-groups-preserved
+loop-groups-preserved c =
+    let here = drop-item c.args.commands.now c.loop-groups.groups-index _ c.loop-groups-test.true c.groups-item.is in
+    leads_step _ _ c.args.count _ _ _ c.args.commands.now here (rw c.as_slice.ensures at c.in_ok-part_groups.ensures) c.loop-groups.invariant
 
 pub returns : goal.returns
 returns c =
-    let all : take c.loop-two.two-index c.args.groups.now ≡ c.args.groups.now = grind (arith, common_steps) in
-    exclusive_answer c.list_of.result c.loop-two.pairs.keys c.args.groups.now c.list_of.ensures.pairs c.list_of.ensures.rising
-    (λ pair. c.loop-two.invariant pair ∙ ap (λ groups. parts_in groups pair) all)
+    exclusive_answer c.list_of.result c.loop-groups.pairs.keys c.args.count c.args.commands.now c.list_of.ensures.pairs c.list_of.ensures.rising
+    (leads_end c.loop-groups.pairs c.args.count c.args.commands.now _ (drop_all c.loop-groups.groups-index c.args.commands.now c.loop-groups-test.false) c.loop-groups.invariant)

@@ -1,16 +1,13 @@
-use Rattle.std.proofs.Common.{◌∙◌, ap}
-use Rattle.sdc_model.specs.ClockGroups.{Groups, is_among}
-use Rattle.sdc_cli.specs.Exclusive.{HasSame}
-use Rattle.sdc_cli.proofs.ExclusiveSteps.{HasMore-distinct}
+use Rattle.sdc_cli.proofs.GroupSteps.{alone_parts, on_ok, one_item, several_part}
 use Rattle.sdc_cli.proofs.group_pairs.part_groups.Goals as goal
 
-pub returns : goal.returns
-returns c =
-    let first : HasSame c.args.two.now.first c.as_slice-3.result.now =
-    λ place. ap (is_among place) c.as_slice-3.ensures.value
-    ∙ (c.in_ok-first.ensures place ∙ (ap (is_among place) c.as_slice.ensures ∙ ap (λ (g : Groups). is_among place g.first) c.two.view_is)) in
-    let second : HasSame c.args.two.now.second c.as_slice-4.result.now =
-    λ place. ap (is_among place) c.as_slice-4.ensures.value
-    ∙ (c.in_ok-second.ensures place ∙ (ap (is_among place) c.as_slice-2.ensures ∙ ap (λ (g : Groups). is_among place g.second) c.two.view_is)) in
-    HasMore-distinct c.args.pairs.now c.part_all.new.pairs c.args.two.now.first c.args.two.now.second
-    c.as_slice-3.result.now c.as_slice-4.result.now first second c.in_ok-part_all.ensures
+pub returns-in-len1 : goal.returns-in-len1
+returns-in-len1 c =
+    let only = one_item c.args.groups.now _ c.in-len1.len_at_least c.in-len1.len_below c.alone-item.is in
+    on_ok c.part_alone.result _ _ (alone_parts c.args.pairs.now c.part_alone.new.pairs c.args.count c.args.groups.now _ only)
+    (rw c.as_slice.ensures at c.part_alone.ensures)
+
+pub returns-in-len2-up : goal.returns-in-len2-up
+returns-in-len2-up c =
+    on_ok c.part_every_two.result _ _ (several_part c.args.pairs.now c.part_every_two.new.pairs c.args.count c.args.groups.now c.in-len2-up.len_at_least)
+    c.part_every_two.ensures

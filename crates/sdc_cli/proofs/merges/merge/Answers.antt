@@ -20,6 +20,11 @@ overflow_cast-count c =
     rw (c.in_ok-views.ensures, c.as_slice.ensures, views_count c.args.modes.now) at c.in_ok-clocks.ensures.few in
     rw c.len-count.ensures (omega (arith, few, c.requires.few))
 
+pub returns-clause-few : goal.returns-clause-few
+returns-clause-few c =
+    rw (c.clock_mode-mode.ensures.clocks, c.in_ok-copy.ensures)
+    (rw (c.in_ok-views.ensures, c.as_slice.ensures, views_count c.args.modes.now) at c.in_ok-clocks.ensures.few)
+
 pub returns-clause-merged : goal.returns-clause-merged
 returns-clause-merged c = record {
   identity = rw (← c.as_slice.ensures, ← c.in_ok-views.ensures) c.in_ok-clocks.ensures.map;

@@ -1,6 +1,7 @@
-use Rattle.std.proofs.Common.{Ok, Err}
+use Rattle.std.proofs.Common.{◌≤◌, ◌-◌, Ok, Err, length, arith}
 use Rattle.sdc_cli.specs.ModeBytes.{SaysAtMost}
-use Rattle.sdc_cli.proofs.SaidClocks.{said_is_printable}
+use Rattle.sdc_cli.proofs.HostSteps.{most_within}
+use Rattle.sdc_cli.proofs.SaidClocks.{most_is_printable}
 use Rattle.sdc_cli.proofs.ModeSteps.{told_mode, told_fault}
 use Rattle.sdc_cli.proofs.mode_files.read_file.Goals as goal
 
@@ -9,8 +10,13 @@ returns-in-Ok-read_mode-clause-told g c =
     let says : SaysAtMost _ c.in-Ok.bytes (Ok c.in-Ok-read_mode.mode) = rw c.as_slice.ensures at c.in-Ok-read_mode.ensures in
     told_mode c.args.most c.args.count c.args.place _ _ c.in-Ok-read_mode.mode _ _ c.requires c.in-Ok.ensures.whole says
 
+pub returns-in-Ok-read_mode-clause-within : goal.returns-in-Ok-read_mode-clause-within
+returns-in-Ok-read_mode-clause-within g c =
+    let few : length c.in-Ok-read_mode.mode.clocks ≤ c.args.most - c.args.count = most_within _ _ c.in-Ok-read_mode.mode c.in-Ok-read_mode.ensures in
+    omega (arith, few, c.requires)
+
 pub returns-in-Ok-read_mode-clause-printable : goal.returns-in-Ok-read_mode-clause-printable
-returns-in-Ok-read_mode-clause-printable g c = said_is_printable c.in-Ok-read_mode.ensures.0
+returns-in-Ok-read_mode-clause-printable g c = most_is_printable _ _ c.in-Ok-read_mode.mode c.in-Ok-read_mode.ensures
 
 pub returns-in-Err-Refused-clause-told : goal.returns-in-Err-Refused-clause-told
 returns-in-Err-Refused-clause-told g c =

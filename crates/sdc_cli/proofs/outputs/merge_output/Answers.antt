@@ -1,7 +1,8 @@
 -- The bytes that were counted are those of the merge that is printed, since modes have one merge.
 use Rattle.std.proofs.Common.{◌≡◌, ◌≤◌, ◌∙◌, length, refl, sym, ap, arith, rules}
 use Rattle.sdc_base.specs.declared.whole.TheConstants.{MOST_BYTES}
-use Rattle.sdc_model.specs.declared.merges.Merged.{Merged}
+use Rattle.timing_types.specs.declared.merges.Merged.{Merged}
+use Rattle.sdc_model.specs.ClockCommands.{most_file_clocks}
 use Rattle.sdc_model.specs.PrintedFile.{IsPrintable}
 use Rattle.sdc_print.proofs.FileReads.{reads_back}
 use Rattle.sdc_cli.specs.MergeOutput.{SaysAgain, empty_design, merged_text}
@@ -33,7 +34,8 @@ returns c =
     let same : counted.0 ≡ merged = merge_once c.args.modes.now c.requires.printable counted.0 merged counted.1 is in
     let count : length (merged_text merged) ≡ c.in_ok-bytes.bytes = ap (λ (m : Merged). length (merged_text m)) (sym same) ∙ counted.2 in
     let text : c.in_ok-text.text ≡ merged_text merged = rw c.empty-design.ensures at c.in_ok-text.ensures in
-    let back : SaysAgain merged.mode c.in_ok-text.text = rw text (reads_back empty_design merged.mode printable refl) in
+    let few : length merged.mode.clocks ≤ most_file_clocks = omega (arith, c.in-Ok.ensures.few, c.requires.few) in
+    let back : SaysAgain merged.mode c.in_ok-text.text = rw text (reads_back empty_design merged.mode printable refl few) in
     record {
       merged = merged;
       is_merge = is;

@@ -13,7 +13,7 @@ fn wave_says(
     waveform: &str,
     wanted: &str,
 ) -> Result<(), Fail> {
-    let text = format!(in alloc; "create_clock|-name|a|-period|{period}|-waveform|{{{waveform}}}")?;
+    let text = format!(in alloc; "create_clock -name a -period {period} -waveform {{{waveform}}}")?;
     says(rt, alloc, text.as_str(), wanted)
 }
 
@@ -63,7 +63,7 @@ static NO_WAVEFORMS: [&str; 14] = [
     "0 x",
     "{0 5}",
     // no list
-    "0 {5",
+    "\"0 5",
     "{0}5",
 ];
 
@@ -76,17 +76,36 @@ fn waveforms_of_another_form(rt: HostRuntime) -> Result<(), Fail> {
 }
 
 /// Texts, and what they say.
-static CLOCKS_OF_FILES: [(&str, &str); 5] = [
-    ("create_clock|-name|a|-period|10", "a 10000000 0 5000000;"),
-    ("create_clock|-name|a|-period|0.000003", "a 3 0 1;"),
-    ("create_clock|-name|a|-period|0.000002", "a 2 0 1;"),
+static CLOCKS_OF_FILES: [(&str, &str); 10] = [
+    ("create_clock -name a -period 10", "a 10000000 0 5000000;"),
+    ("create_clock -name a -period 0.000003", "a 3 0 1;"),
+    ("create_clock -name a -period 0.000002", "a 2 0 1;"),
     (
-        "set|sdc_version|2.1\nset_units|-time|1ns\ncreate_clock|-name|a|-period|1000000",
+        "set sdc_version 2.1\nset_units -time 1ns\ncreate_clock -name a -period 1000000",
         "a 1000000000000 0 500000000000;",
     ),
     (
-        "create_clock|-name|b|-period|2\ncreate_clock|-name|a|-period|{4}",
+        "create_clock -name b -period 2\ncreate_clock -name a -period {4}",
         "b 2000000 0 1000000;a 4000000 0 2000000;",
+    ),
+    // options in another order, and other values of variables
+    (
+        "create_clock -waveform {2 5} -period 10 -name a",
+        "a 10000000 2000000 5000000;",
+    ),
+    ("set sdc_version 2.0\nset_units -time 1ns; # none", ""),
+    // values of variables, scripts and loops
+    (
+        "set T 2\nforeach n {a b} {\n  create_clock -name $n -period $T\n  set T [expr $T * 2]\n}",
+        "a 2000000 0 1000000;b 4000000 0 2000000;",
+    ),
+    (
+        "if {1 < 2} {create_clock -name \"a\" -period [llength {a b}]}",
+        "a 2000000 0 1000000;",
+    ),
+    (
+        "create_clock -name a -period 4 -waveform [list 0 [expr 3 / 2.0]]",
+        "a 4000000 0 1500000;",
     ),
 ];
 
@@ -99,23 +118,29 @@ fn clocks_of_files(rt: HostRuntime) -> Result<(), Fail> {
 }
 
 /// Commands that are not read.
-static OTHER_COMMANDS: [&str; 14] = [
+static OTHER_COMMANDS: [&str; 19] = [
     // periods out of range, and no periods
-    "create_clock|-name|a|-period|0.000001",
-    "create_clock|-name|a|-period|1000000.000001",
-    "create_clock|-name|a|-period|-1",
-    "create_clock|-name|a|-period|ten",
-    "create_clock|-name|a|-period|[b]",
+    "create_clock -name a -period 0.000001",
+    "create_clock -name a -period 1000000.000001",
+    "create_clock -name a -period -1",
+    "create_clock -name a -period ten",
+    "create_clock -name a -period [list 1 2]",
     // names that are none
-    "create_clock|-name|a.b|-period|10",
-    "create_clock|-name|{}|-period|10",
-    // other arguments and commands
-    "create_clock|-period|10|-name|a",
-    "create_clock|-name|a|-period|10|x",
+    "create_clock -name a.b -period 10",
+    "create_clock -name {} -period 10",
+    // other options, and options that are not given once
+    "create_clock -name a -period 10 x",
+    "create_clock -name a -period 10 -add",
+    "create_clock -name a -period 10 -name b",
+    "create_clock -nam a -period 10",
+    "create_clock -name a",
+    "create_clock -name a -period",
     "create_clock",
-    "set|sdc_version|2.0",
-    "set_units|-time|1ps",
-    "set|sdc_version",
+    // other commands
+    "set_units -time 1ps",
+    "set_units -time ns",
+    "set_units",
+    "get_clocks a",
     "foo",
 ];
 
@@ -129,6 +154,31 @@ fn commands_of_another_form(rt: HostRuntime) -> Result<(), Fail> {
 
 #[test]
 fn a_name_twice(rt: HostRuntime) -> Result<(), Fail> {
-    let text = "create_clock|-name|a|-period|10\ncreate_clock|-name|a|-period|20";
+    let text = "create_clock -name a -period 10\ncreate_clock -name a -period 20";
     says(&rt, rt.alloc(), text, "Sdc(OutOfProfile) 2")
+}
+
+/// Scripts, and their first fault with its line.
+static FAULTS: [(&str, &str); 9] = [
+    ("set a {1", "Tcl(Unclosed) 1"),
+    ("set a {1}2", "Tcl(ExtraAfterBrace) 1"),
+    ("set a $b(1)", "Tcl(BadWord) 1"),
+    ("set a $x\nset b {", "Tcl(UnknownVariable) 1"),
+    ("set", "Tcl(WrongArgs) 1"),
+    ("expr x + 1", "Tcl(BadExpr) 1"),
+    ("\nexpr 1 / 0", "Tcl(Number(DivideByZero)) 2"),
+    // the first fault in order of execution, with the line of the outermost command
+    ("foo\nset a {", "Sdc(OutOfProfile) 1"),
+    (
+        "set a 1\nforeach n {a b} {\n  foo\n}",
+        "Sdc(OutOfProfile) 2",
+    ),
+];
+
+#[test]
+fn first_faults_of_scripts(rt: HostRuntime) -> Result<(), Fail> {
+    for (text, wanted) in FAULTS.iter() {
+        says(&rt, rt.alloc(), text, wanted)?;
+    }
+    Ok(())
 }
