@@ -2,9 +2,17 @@ mod BuiltGraphs
 mod BuiltInExamples
 mod CallExamples
 mod CandidatePaths
+mod CellArcs
+mod CellForms
+mod CellFunctions
+mod ClearParts
 mod ConflictExamples
+mod DistinctCells
+mod DistinctInputs
+mod EachItem
 mod FactsOfPaths
 mod FlatExamples
+mod FunctionPins
 mod IdentityExamples
 mod InnerNodes
 mod KeyLineExamples
@@ -14,6 +22,7 @@ mod LimitExamples
 mod ListExamples
 mod MetListExamples
 mod MetLists
+mod NamedUnits
 mod NetlistMeans
 mod NoLimit
 mod OneLibrary
@@ -23,6 +32,7 @@ mod OneWinner
 mod PathLimits
 mod ReadIsSpelled
 mod Requirements
+mod RisingCells
 mod RunExamples
 mod SpelledIsRead
 mod TwoRegisterClasses
@@ -30,5 +40,6 @@ mod TwoRegisterGraph
 mod TwoRegisterPool
 mod TwoRegisterTiming
 mod TwoRegisters
+mod UsableLibraries
 mod WaveExamples
 mod WinnerExamples

@@ -15,7 +15,7 @@ mod netlist_laws;
 mod timing_laws;
 
 pub use function_laws::{functions_are_read_as_spelled, functions_spell_one_expression};
-pub use liberty_laws::libraries_have_one_meaning;
+pub use liberty_laws::{libraries_have_one_meaning, read_libraries_can_be_used};
 pub use merge_laws::{prefixes_lose_no_met_list, same_modes_have_same_requirements};
 pub use netlist_laws::netlists_have_one_meaning;
 pub use timing_laws::{
