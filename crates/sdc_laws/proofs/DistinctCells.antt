@@ -1,8 +1,8 @@
 -- No two cells of a library that is read have one name: the later one would be a fault.
-use Rattle.std.proofs.Common.{◌≡◌, ◌<◌, ℕ, zero, suc, Bool, true, false, List, [], ◌∷◌, Option, Some, map, refl, sym, ap, subst, ◌∙◌, inl, inr, slice_get}
-use Rattle.std.specs.Prelude.{◌&&◌, codes, nat_eq, nat_lt, if◌then◌else◌}
+use Rattle.std.proofs.Common.{◌≡◌, ◌<◌, ℕ, zero, suc, true, false, List, [], ◌∷◌, Option, Some, map, refl, sym, ap, subst, ◌∙◌, inl, inr, slice_get}
+use Rattle.std.specs.Prelude.{◌&&◌, codes, nat_lt}
 use Rattle.std.specs.List.{All, flat_map}
-use Rattle.std.proofs.lemmas.Bool.{and_from, both_ways, cases_order, eq-eqb, lt-ltb}
+use Rattle.std.proofs.lemmas.Bool.{and_from, both_ways, cases_order, lt-ltb}
 use Rattle.std.proofs.lemmas.List.Elements.{All-get_or, All-weaker}
 use Rattle.std.proofs.lemmas.List.Folds.{list_any_at}
 use Rattle.std.proofs.lemmas.Option.{get_or_from_slice_get, none-some, same_Some, slice_get_within}
@@ -16,14 +16,11 @@ use Rattle.sdc_model.specs.WellFormedDesign.{AreDistinct}
 use Rattle.sdc_model.specs.Words.{same_text}
 use Rattle.sdc_laws.proofs.CellForms.{by_form}
 use Rattle.sdc_laws.proofs.ClearParts.{IsClear, cell_clear, parts_clear}
-use Rattle.sdc_laws.proofs.EachItem.{each_joined, each_kept, each_nothing}
+use Rattle.sdc_laws.proofs.EachItem.{each_joined, each_kept, each_nothing, unless}
+use Rattle.sdc_laws.proofs.SameTexts.{text_same}
 use Rattle.sdc_laws.proofs.RisingCells.{Rises, cells_in, cells_rise, in_order, member_number}
 
 -- ---- no cell is double
-
-unless : {A : Type 0} (b : Bool) (x : A) → (if b then x ∷ [] else []) ≡ [] → b ≡ false
-unless true x is = absurd cc
-unless false x is = refl
 
 not_double : (cells : List Member) (m : Member) → IsClear cells m → is_group (codes "cell") m.statement ≡ true → is_double cells m ≡ false
 not_double cells m clear group = unless (is_double cells m) _ (cell_clear cells m clear group)
@@ -43,10 +40,6 @@ all_single cells first libraries none =
     (All-weaker (λ (l : Member). library_faults cells first l ≡ []) (λ (l : Member). All (IsSingle cells) (cells_in l)) (library_single cells first) libraries (each_nothing (library_faults cells first) libraries none))
 
 -- ---- names
-
-text_same : (text : List ℕ) → same_text text text ≡ true
-text_same [] = refl
-text_same (b ∷ bs) = and_from (nat_eq b b) (same_text bs bs) (eq-eqb b b refl) (text_same bs)
 
 -- an earlier cell of a name makes the later one double
 double : (cells : List Member) (i : ℕ) (one other : Member) → slice_get cells i ≡ Some one → member_number one < member_number other → name_of one ≡ name_of other → is_double cells other ≡ true

@@ -1,5 +1,5 @@
 -- What holds of each item of lists that are made of others.
-use Rattle.std.proofs.Common.{◌≡◌, Bool, true, List, [], ◌∷◌, ◌++◌, Option, Some, None, refl}
+use Rattle.std.proofs.Common.{◌≡◌, Bool, true, false, List, [], ◌∷◌, ◌++◌, Option, Some, None, refl}
 use Rattle.std.specs.Prelude.{if◌then◌else◌}
 use Rattle.std.specs.List.{All, cons_option, filter, filter_map, flat_map, fold}
 use Rattle.std.proofs.lemmas.List.Elements.{All-append, All-cons, All-head, All-nil, All-tail}
@@ -42,3 +42,7 @@ pub each_nothing : {A B : Type 0} (f : A → List B) (xs : List A) → flat_map 
 each_nothing f [] is = All-nil (λ x. f x ≡ [])
 each_nothing f (x ∷ xs) is =
     let both = both_nothing (f x) (flat_map f xs) is in All-cons (λ y. f y ≡ []) x xs both.0 (each_nothing f xs both.1)
+
+pub unless : {A : Type 0} (b : Bool) (x : A) → (if b then x ∷ [] else []) ≡ [] → b ≡ false
+unless true x is = absurd cc
+unless false x is = refl

@@ -17,7 +17,7 @@ mod timing_laws;
 pub use function_laws::{functions_are_read_as_spelled, functions_spell_one_expression};
 pub use liberty_laws::{libraries_have_one_meaning, read_libraries_can_be_used};
 pub use merge_laws::{prefixes_lose_no_met_list, same_modes_have_same_requirements};
-pub use netlist_laws::netlists_have_one_meaning;
+pub use netlist_laws::{netlists_have_one_meaning, read_netlists_can_be_flattened};
 pub use timing_laws::{
     candidates_are_paths, clocks_arrive_at_their_sources, facts_match_as_their_path,
     false_paths_alone_take_limits, graphs_of_designs_are_well_formed,
