@@ -45,6 +45,7 @@ mod Requirements
 mod RisingCells
 mod RunExamples
 mod SameTexts
+mod SmallNetlists
 mod SpelledIsRead
 mod TwoRegisterClasses
 mod TwoRegisterGraph
@@ -52,5 +53,8 @@ mod TwoRegisterPool
 mod TwoRegisterTiming
 mod TwoRegisters
 mod UsableLibraries
+mod VerilogExamples
+mod VerilogFaultExamples
+mod VerilogFormExamples
 mod WaveExamples
 mod WinnerExamples

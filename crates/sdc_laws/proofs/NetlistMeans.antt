@@ -25,7 +25,7 @@ use Rattle.sdc_model.specs.Verilog.{ReadsText, ReadsVerilog, fault, meaning}
 use Rattle.sdc_model.specs.VerilogConstants.{is_base_letter, is_digits_byte, is_number_byte, lower}
 use Rattle.sdc_model.specs.VerilogGrammar.{verilog}
 use Rattle.sdc_model.specs.VerilogKinds.{kinds_of}
-use Rattle.sdc_model.specs.VerilogTokens.{AreTokens, Gap, Lexed, Place, Token, base_token, begins_word, behind_gap, between, closes, digits_token, ended_gap, escaped_token, first_place, front_behind, gap_behind, inside, is_blank, is_word_byte, mark_kind, number_token, opens, plain, plain_token, rest_of_line, token_at, token_behind, word_token}
+use Rattle.sdc_model.specs.VerilogTokens.{Gap, Lexed, Place, Token, base_token, begins_word, behind_gap, between, closes, digits_token, ended_gap, escaped_token, first_place, front_behind, gap_behind, inside, is_blank, is_word_byte, mark_kind, number_token, opens, plain, plain_token, rest_of_line, token_at, token_behind, word_token}
 
 -- ---- what is left behind a run of bytes
 
@@ -149,48 +149,57 @@ token_short place t next is = place_short place t next is
 
 -- ---- tokens of a text
 
-Tokens : Place → Type 0
-Tokens place = (tokens : List Token) × Row (λ p front. token_at p ≡ front) tokens place tt
+-- the tokens from a place on, of which there are at most so many
+abbrev tokens_from : ℕ → Place → List Token
+tokens_from zero place = []
+tokens_from (suc n) place = elim (token_at place) [ found t next ↦ t ∷ tokens_from n next | stops ending ↦ [] ]
 
-row_from : (place : Place) (front : Leftover) → token_at place ≡ front → ((next : Place) → length next.text < length place.text → Tokens next) → Tokens place
-unfolding Tokens
-row_from place (stops tt) is shorter = ([], is)
-row_from place (found t next) is shorter =
-    let more = shorter next (token_short place t next is) in (t ∷ more.0, (next, is, more.1))
+abbrev StandFrom : List Token → Place → Type 0
+StandFrom tokens place = Row (λ p front. token_at p ≡ front) tokens place tt
 
-row : (fuel : ℕ) (place : Place) → length place.text ≤ fuel → Tokens place
-row zero place short = row_from place (token_at place) refl (λ next less. absurd (omega (arith, less, short)))
-row (suc fuel) place short = row_from place (token_at place) refl (λ next less. row fuel next (omega (arith, less, short)))
+none_left : (place : Place) (front : Leftover) → token_at place ≡ front → length place.text ≤ 0 → StandFrom [] place
+none_left place (stops tt) is short = is
+none_left place (found t next) is short = absurd (omega (arith, token_short place t next is, short))
 
-tokens_some : (text : List ℕ) → (tokens : List Token) × AreTokens text tokens
-unfolding Tokens
-tokens_some text = row (length text) (first_place text) (omega arith)
+row_from : (n : ℕ) (place : Place) (front : Leftover) → token_at place ≡ front → ((next : Place) → length next.text < length place.text → StandFrom (tokens_from n next) next) → StandFrom (elim front [ found t next ↦ t ∷ tokens_from n next | stops ending ↦ [] ]) place
+row_from n place (stops tt) is shorter = is
+row_from n place (found t next) is shorter = (next, is, shorter next (token_short place t next is))
+
+row : (fuel : ℕ) (place : Place) → length place.text ≤ fuel → StandFrom (tokens_from fuel place) place
+row zero place short = none_left place (token_at place) refl short
+row (suc fuel) place short = row_from fuel place (token_at place) refl (λ next less. row fuel next (omega (arith, less, short)))
+
+abbrev tokens_in : List ℕ → List Token
+tokens_in text = tokens_from (length text) (first_place text)
 
 -- ---- bytes
 
-text_some : (bytes : List ℕ) → IsUtf8 bytes → (outcome : Result (List Module) (At VerilogKind)) × ReadsText bytes outcome
-text_some bytes text =
-    let some = tokens_some bytes in
-    let break = break_of verilog Source (kinds_of some.0) in (
-      meaning bytes some.0 break,
-      record {
-        tokens = some.0;
-        break = break;
-        text = text;
-        stand = some.1;
-        breaks = breaks verilog follow decides Source (kinds_of some.0);
-        is = refl;
-      },
-    )
+abbrev meaning_of : List ℕ → List Token → Result (List Module) (At VerilogKind)
+meaning_of bytes tokens = meaning bytes tokens (break_of verilog Source (kinds_of tokens))
+
+-- what the bytes of a text are read as, by a function
+abbrev pub read : List ℕ → Result (List Module) (At VerilogKind)
+read bytes = meaning_of bytes (tokens_in bytes)
+
+-- the bytes of a text mean what they are read as
+pub text_read : (bytes : List ℕ) → IsUtf8 bytes → ReadsText bytes (read bytes)
+text_read bytes text = record {
+  tokens = tokens_in bytes;
+  break = break_of verilog Source (kinds_of (tokens_in bytes));
+  text = text;
+  stand = row (length bytes) (first_place bytes) (omega arith);
+  breaks = breaks verilog follow decides Source (kinds_of (tokens_in bytes));
+  is = refl;
+}
 
 true_is_false : true ≡ false → ⊥
 true_is_false is = cc
 
-no_text : (bytes : List ℕ) → is_utf8 bytes ≡ false → IsUtf8 bytes → ⊥
+pub no_text : (bytes : List ℕ) → is_utf8 bytes ≡ false → IsUtf8 bytes → ⊥
 no_text bytes fails text = true_is_false (sym (is_utf8-from_IsUtf8 bytes text) ∙ fails)
 
 pub netlist_some : (bytes : List ℕ) → (outcome : Result (List Module) (At VerilogKind)) × ReadsVerilog bytes outcome
 netlist_some bytes =
     by_bool (λ b. (outcome : Result (List Module) (At VerilogKind)) × ReadsVerilog bytes outcome) (is_utf8 bytes)
-    (λ passes. let some = text_some bytes (IsUtf8-from_is_utf8 bytes passes) in (some.0, inl some.1))
+    (λ passes. (read bytes, inl (text_read bytes (IsUtf8-from_is_utf8 bytes passes))))
     (λ fails. (fault (broken_text_line bytes) NotText, inr (no_text bytes fails, refl)))
