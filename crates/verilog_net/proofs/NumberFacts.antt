@@ -1,0 +1,60 @@
+-- Numbers digit by digit, up to 32 bits.
+use Rattle.std.proofs.Common.{◌≡◌, ◌∙◌, ◌+◌, ◌-◌, ◌*◌, ◌<◌, ◌≤◌, ◌==◌, ◌∷◌, ℕ, Bool, true, false, List, [], None, Some, drop, get_or, length, nat_le, refl, sym, ap, arith, if◌then◌else◌}
+use Rattle.std.specs.Prelude.{◌&&◌}
+use Rattle.std.proofs.lemmas.Bool.Decides.{nat_tests}
+use Rattle.std.proofs.lemmas.List.{at_drop_more}
+use Rattle.sdc_base.proofs.CaseFacts.{by_bool}
+use Rattle.source_types.specs.declared.verilog_tokens.VerilogToken.{VerilogToken}
+use Rattle.source_types.specs.declared.verilog_tokens.VerilogToken.TheVariants as kind
+use Rattle.sdc_model.specs.VerilogConstants as grammar
+
+next_no_less : (n b : ℕ) → n ≤ grammar.next_number n b
+next_no_less n b = by_bool (λ t. n ≤ (if t then n else (n * 10) + (b - 48))) (b == 95) (λ is. omega arith) (λ is. omega arith)
+
+no_less : (n : ℕ) (digits : List ℕ) → n ≤ grammar.number_behind n digits
+no_less n [] = omega arith
+no_less n (b ∷ bs) =
+    let first : n ≤ grammar.next_number n b = next_no_less n b in
+    let rest : grammar.next_number n b ≤ grammar.number_behind (grammar.next_number n b) bs = no_less (grammar.next_number n b) bs in
+    omega (arith, first, rest)
+
+-- a number that is too large stays so
+pub too_large : (n : ℕ) (rest all : List ℕ) → 4294967295 < n → grammar.number_behind n rest ≡ grammar.number_of all → None ≡ (if nat_le (grammar.number_of all) 4294967295 then Some (grammar.number_of all) else None)
+too_large n rest all large is =
+    let more : n ≤ grammar.number_behind n rest = no_less n rest in
+    let test : nat_le (grammar.number_of all) 4294967295 ≡ false = grind (arith, nat_tests) in
+    rw test refl
+
+pub too_large_step : (number n : ℕ) (digits : List ℕ) (i : ℕ) → i < length digits → grammar.number_behind number (drop i digits) ≡ grammar.number_of digits → n ≡ grammar.next_number number (get_or digits i 0) → 4294967295 < n → None ≡ (if nat_le (grammar.number_of digits) 4294967295 then Some (grammar.number_of digits) else None)
+too_large_step number n digits i inside so_far is large =
+    too_large n (drop (i + 1) digits) digits large (ap (λ (m : ℕ). grammar.number_behind m (drop (i + 1) digits)) is ∙ (sym (at_drop_more (grammar.number_behind number) digits i 0 inside) ∙ so_far))
+
+pub small : (n : ℕ) (all : List ℕ) → n ≤ 4294967295 → n ≡ grammar.number_of all → Some n ≡ (if nat_le (grammar.number_of all) 4294967295 then Some (grammar.number_of all) else None)
+small n all few is =
+    let test : nat_le (grammar.number_of all) 4294967295 ≡ true = grind (arith, nat_tests) in
+    rw test (ap (λ (m : ℕ). Some m) is)
+
+pub found_small : (n m : ℕ) (t : Bool) → Some n ≡ (if t then Some m else None) → (t ≡ true) × (n ≡ m)
+found_small n m true is = (refl, cc)
+found_small n m false is = cc
+
+pub found_none : (m : ℕ) (t : Bool) → None ≡ (if t then Some m else None) → t ≡ false
+found_none m true is = cc
+found_none m false is = refl
+
+pub large_kind : (digits : List ℕ) → None ≡ (if nat_le (grammar.number_of digits) 4294967295 then Some (grammar.number_of digits) else None) → kind.LargeNumber ≡ grammar.number_kind digits
+large_kind digits is =
+    let large : nat_le (grammar.number_of digits) 4294967295 ≡ false = found_none (grammar.number_of digits) (nat_le (grammar.number_of digits) 4294967295) is in
+    let no_size : nat_le (grammar.number_of digits) 64 ≡ false = grind (arith, nat_tests) in
+    let no_bound : nat_le (grammar.number_of digits) 999999 ≡ false = grind (arith, nat_tests) in
+    rw (no_bound, no_size) (no_both (grammar.leads_nonzero digits) (nat_le 1 (grammar.number_of digits))) where
+      no_both : (a b : Bool) → kind.LargeNumber ≡ (if a && b && false then kind.Size else (if false then kind.Number else kind.LargeNumber))
+      no_both true true = refl
+      no_both true false = refl
+      no_both false b = refl
+
+pub some_kind : (digits : List ℕ) (n : ℕ) (k : VerilogToken) → Some n ≡ (if nat_le (grammar.number_of digits) 4294967295 then Some (grammar.number_of digits) else None)
+    → k ≡ (if grammar.leads_nonzero digits && nat_le 1 n && nat_le n 64 then kind.Size else (if nat_le n 999999 then kind.Number else kind.LargeNumber)) → k ≡ grammar.number_kind digits
+some_kind digits n k is all =
+    let found = found_small n (grammar.number_of digits) (nat_le (grammar.number_of digits) 4294967295) is in
+    all ∙ ap (λ (m : ℕ). if grammar.leads_nonzero digits && nat_le 1 m && nat_le m 64 then kind.Size else (if nat_le m 999999 then kind.Number else kind.LargeNumber)) found.1

@@ -1,0 +1,11 @@
+pub mod Contexts
+pub mod Faults
+pub mod Keywords
+pub mod Links
+pub mod Modules
+pub mod Names
+pub mod Recognition
+pub mod Runs
+pub mod Seen
+pub mod Syntax
+pub mod Wires

@@ -1,0 +1,28 @@
+-- The reader's nets before their names are compared, as the definitions have them. This project's own.
+use Rattle.std.specs.Prelude.{◌≡◌, ◌++◌, ◌∷◌, [], ℕ, List, String, map, if◌then◌else◌}
+use Rattle.std.specs.BTreeMap.{BTreeMap}
+use Rattle.source_types.specs.declared.netlists.Wire.{Wire}
+use Rattle.sdc_model.specs.VerilogKinds.{is_among}
+use Rattle.sdc_model.specs.VerilogNets.{new_wires}
+use Rattle.sdc_model.specs.VerilogTokens.{Token}
+use Rattle.verilog_net.specs.declared.nets.Candidate.{Candidate}
+use Rattle.verilog_net.specs.Contexts.{HasNames}
+
+-- the texts of tokens
+abbrev pub texts : List Token → List (List ℕ)
+texts tokens = map (λ (token : Token). token.text) tokens
+
+abbrev pub candidate_seen : Candidate → Wire
+candidate_seen net = record { name = net.name.now; range = net.range; tie = net.tie }
+
+abbrev pub candidates_seen : List Candidate → List Wire
+candidates_seen all = map candidate_seen all
+
+-- the names that are taken behind one more net
+abbrev pub taken_behind : List (List ℕ) → Wire → List (List ℕ)
+taken_behind names net = if is_among names net.name then names else net.name ∷ names
+
+-- a net is added unless its name is taken, and then it is
+pub record AddsWire {A V : Type 0} (taken : BTreeMap (String A) V) (names : List (List ℕ)) (net : Wire) (old new : List Wire) : Type 0 where
+  pub nets : new ≡ old ++ new_wires names (net ∷ [])
+  pub names_are : HasNames taken (taken_behind names net)

@@ -1,0 +1,28 @@
+//! Sets of names.
+
+ghost use Rattle.std.specs.Prelude.{◌≡◌, ◌∷◌, List, ℕ, OnOk};
+ghost use Rattle.sdc_model.specs.VerilogKinds as grammar;
+ghost use Rattle.verilog_net.specs.Contexts.{HasNames};
+
+use sdc_base::NoMemory;
+use std::alloc::Global;
+use std::collections::BTreeMap;
+
+/// Names, each found by its text.
+pub type NameSet = BTreeMap<String, ()>;
+
+/// Whether a name is in a set.
+pub fn has_name(names: &NameSet, name: &str) -> bool
+    ensures { (listed : List (List ℕ)) → HasNames names.now listed → result ≡ grammar.is_among listed name.now }
+{
+    names.get(name).is_some()
+}
+
+/// Adds a name to a set. The one error is want of memory.
+pub fn add_name(alloc: Global, names: &mut NameSet, name: &str) -> Result<(), NoMemory>
+    ensures { OnOk result ((listed : List (List ℕ)) → HasNames names.old listed → HasNames names.new (name.now ∷ listed)) }
+{
+    let key = String::from_str(alloc, name)?;
+    names.insert(key, ())?;
+    Ok(())
+}
