@@ -1,21 +1,19 @@
 -- Each step of reading mode files has one outcome, and so has the whole.
 use Rattle.std.proofs.Common.{◌≡◌, ◌∙◌, ◌≤◌, ◌<◌, ◌+◌, ℕ, List, [], ◌∷◌, Result, Ok, Err, inl, inr, length, suc, sym, ap, subst, arith}
-use Rattle.sdc_base.specs.declared.memory.At.{At}
 use Rattle.sdc_base.specs.declared.outside.NamedBytes.{NamedBytes}
 use Rattle.sdc_base.specs.declared.whole.TheConstants.{MOST_BYTES}
 use Rattle.sdc_base.specs.Files.{bytes_of}
 use Rattle.source_types.specs.declared.command_lines.CommandLine.{CommandLine}
 use Rattle.source_types.specs.declared.kinds.Fault.{Fault}
-use Rattle.source_types.specs.declared.kinds.Kind.{Kind}
 use Rattle.timing_types.specs.declared.modes.Mode.{Mode}
 use Rattle.sdc_model.specs.Answers.{files_of, first_place, most_clocks}
-use Rattle.sdc_model.specs.ModeFiles.{Continues, SayModes, SaysFile, fault_of, with_first, within_limit}
+use Rattle.sdc_model.specs.ModeFiles.{Continues, SayModes, SaysFile, with_first, within_limit}
 use Rattle.sdc_model.specs.ModeMeaning.{Said, SaysMode, SaysText, said_of}
 use Rattle.sdc_cli.specs.Laws.{HasOneOutcome}
 use Rattle.sdc_model.specs.ClockFile.{nothing}
 use Rattle.sdc_model.specs.ModeHost.{Answer, IsAnswered, answer, mode_host}
 use Rattle.tcl_eval.proofs.OneRun.{run_once}
-use Rattle.tcl_eval.proofs.OneSteps.{HostIsOne, IsOne}
+use Rattle.tcl_eval.specs.Laws.{HostIsOne, IsOne}
 
 -- ---- the host
 

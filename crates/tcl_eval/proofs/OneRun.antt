@@ -19,11 +19,12 @@ use Rattle.sdc_model.specs.ExpressionRun.{Turn}
 use Rattle.sdc_model.specs.HostCalls.{Host, SetsTo, World, text_in}
 use Rattle.sdc_model.specs.NamedCommands.{Chooses, Holds, Repeats, RunsEach, RunsFirst, RunsNamed, RunsOtherwise, RunsValues, Sets, named, spaced}
 use Rattle.sdc_model.specs.Row.{found, stops}
-use Rattle.sdc_model.specs.ScriptRun.{Enters, GoesOnBehind, Runs, RunsBracket, RunsCommand, RunsCommands, RunsOpened, RunsText, RunsWithin, Told, most_commands, most_levels, one_more, outermost, told_end, without_line, without_value}
+use Rattle.sdc_model.specs.ScriptRun.{Enters, GoesOnBehind, RunsBracket, RunsCommand, RunsCommands, RunsOpened, RunsText, RunsWithin, Told, most_commands, most_levels, one_more, outermost, told_end, without_line, without_value}
 use Rattle.sdc_model.specs.WordValues.{Level, Opened, in_body, in_bracket}
 use Rattle.sdc_model.proofs.RowFacts.{not_both, same_end, same_place, same_thing}
 use Rattle.tcl_words.proofs.OneOutcome.{commands_once}
-use Rattle.tcl_eval.proofs.OneSteps.{HostIsOne, IsOne, LevelIsOne, answers_one, apart, both, calls_one, chosen_one, concatenates_one, counts_one, evaluates_one, indexes_one, items_one, looks_one, then_one, words_one}
+use Rattle.tcl_eval.specs.Laws.{HasOneRun, HostIsOne, IsOne}
+use Rattle.tcl_eval.proofs.OneSteps.{LevelIsOne, answers_one, apart, both, calls_one, chosen_one, concatenates_one, counts_one, evaluates_one, indexes_one, items_one, looks_one, then_one, words_one}
 
 -- ---- commands that are built in
 
@@ -170,8 +171,7 @@ outermost_one host h line = record { host = h; opens = enters_one host h line mo
 
 -- ---- scripts
 
-pub run_once : {S : Type 0} (host : Host S) → HostIsOne host → (script : List ℕ) (before : S) (a b : Result Unit (At Kind)) (x y : S)
-    → Runs host script before a x → Runs host script before b y → (a ≡ b) × (x ≡ y)
+pub run_once : {S : Type 0} (host : Host S) → HostIsOne host → (script : List ℕ) → HasOneRun host script
 run_once {S = S} host h script before a b x y t u =
     let same = text_run_one (λ (this : Command). RunsCommand (outermost host this.line) this)
     (λ this. command_one (outermost host this.line) (outermost_one host h this.line) this) script

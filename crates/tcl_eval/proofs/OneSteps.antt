@@ -15,23 +15,15 @@ use Rattle.sdc_model.specs.BuiltIns.{Concatenates, Counts, HasItems, HaveItems, 
 use Rattle.sdc_model.specs.ExpressionForm.{Tree, binary, levels_of, number, parentheses, unary, word}
 use Rattle.sdc_model.specs.ExpressionRun.{Evaluates, GoesOn, RunsExpression, RunsRight, RunsTree, Turn, as_scalar, then_on}
 use Rattle.sdc_model.specs.ExpressionValue.{changed, decided, joined, text_of}
-use Rattle.sdc_model.specs.HostCalls.{Answered, AsText, Calls, Host, World, text_outcome}
+use Rattle.sdc_model.specs.HostCalls.{AsText, Calls, Host, World, text_outcome}
 use Rattle.sdc_model.specs.ListItems.{Lists}
 use Rattle.sdc_model.specs.NamedCommands.{EvaluatesText, ReadsWord}
 use Rattle.sdc_model.specs.Row.{found}
 use Rattle.sdc_model.specs.Turns.{Answers, Chosen, Looks, OnWith, Then, tcl_outcome}
 use Rattle.sdc_model.specs.WordValues.{Level, Opened, RunsJoined, RunsPart, RunsParts, RunsWord, RunsWords, in_bracket}
 use Rattle.tcl_words.proofs.ListRead.{list_of_is}
+use Rattle.tcl_eval.specs.Laws.{HostIsOne, IsOne}
 use Rattle.tcl_eval.proofs.OneParse.{expressions_once}
-
--- a turn has one outcome and leaves one state
-abbrev pub IsOne : {S A : Type 0} → Turn S A → Type 0
-IsOne {S = S} {A = A} Does =
-    (before : S) (a b : Result A Kind) (x y : S) → Does before a x → Does before b y → (a ≡ b) × (x ≡ y)
-
--- each answer of a host does
-abbrev pub HostIsOne : {S : Type 0} → Host S → Type 0
-HostIsOne host = (line : ℕ) (name : List ℕ) (words : List Value) → IsOne (Answered (host.Answers line name words))
 
 pub record LevelIsOne {S : Type 0} (level : Level S) : Type 0 where
   pub host : HostIsOne level.host

@@ -35,7 +35,7 @@ mod waiting;
 
 pub use evaluation::eval;
 pub use hosts::Commands;
-pub use laws::{expression_is_one, parse_is_one};
+pub use laws::{expression_is_one, parse_is_one, runs_have_one_outcome};
 pub use operations::{changed, decided, joined};
 pub use parsing::parse_expression;
 pub use values::{computed, text_of, truth_of};
