@@ -1,5 +1,5 @@
 -- Steps of an expression that are run one after the other: whatever those behind give, all give.
-use Rattle.std.proofs.Common.{◌≡◌, ◌≤◌, ◌<◌, ◌+◌, ℕ, zero, suc, List, [], ◌∷◌, Option, Some, None, Result, Ok, Err, refl, sym, ap, subst, inl, inr, arith}
+use Rattle.std.proofs.Common.{◌≡◌, ◌≤◌, ◌+◌, ℕ, List, [], ◌∷◌, Option, Some, None, Result, Ok, Err, refl, sym, ap, subst, inl, arith}
 use Rattle.sdc_base.specs.Gives.{Gives, Meets}
 use Rattle.sdc_base.specs.declared.memory.Stop.{Stop}
 use Rattle.sdc_base.specs.declared.memory.Stop.TheVariants as stop
@@ -12,7 +12,7 @@ use Rattle.source_types.specs.declared.expressions.Scalar.TheVariants as scalar
 use Rattle.source_types.specs.declared.kinds.Kind.{Kind}
 use Rattle.source_types.specs.declared.kinds.Kind.TheVariants.{Tcl}
 use Rattle.source_types.specs.declared.kinds.TclKind.{TclKind}
-use Rattle.source_types.specs.declared.kinds.TclKind.TheVariants.{BadExpr, TooDeep}
+use Rattle.source_types.specs.declared.kinds.TclKind.TheVariants.{BadExpr}
 use Rattle.timing_types.specs.declared.objects.Value.{Value}
 use Rattle.sdc_model.specs.ExpressionForm.{levels_of}
 use Rattle.sdc_model.specs.ExpressionRun.{RunsExpression, Turn, raised}
@@ -21,7 +21,7 @@ use Rattle.sdc_model.specs.ExpressionValue.{changed, computed, decided, joined}
 use Rattle.sdc_model.specs.HostCalls.{World, text_in}
 use Rattle.sdc_model.specs.NamedCommands.{ReadsWord}
 use Rattle.sdc_model.specs.WordValues.{Level, RunsWord}
-use Rattle.tcl_eval.specs.StepsRun.{GoesOnDecided, GoesOnWith, RunsSteps, StepsOn, Takes, TakesDecision, TakesValue, ended, passing}
+use Rattle.tcl_eval.specs.StepsRun.{GoesOnDecided, GoesOnWith, RunsSteps, StepsOn, Takes, TakesDecision, TakesValue, ended}
 use Rattle.tcl_eval.specs.Worlds.{Does, as_answer}
 use Rattle.tcl_eval.proofs.StepsFacts.{steps_are_trees}
 
@@ -29,12 +29,6 @@ abbrev Reader : Type 0 → Type 1
 Reader State = ℕ → Word → Turn State (List ℕ)
 
 -- ---- one step
-
--- a step that is passed over
-pub step_passed : {State : Type 0} (Reads : Reader State) (passed next : ℕ) (s : ExpressionStep) (values : List Scalar) (w : State)
-    → 0 < passed → next ≡ passing s passed → StepsOn Reads passed s values w (Ok next) values w
-step_passed Reads zero next s values w some e = absurd (omega (arith, some))
-step_passed Reads (suc passed) next s values w some e = λ ss given last h. subst (λ n. RunsSteps Reads 0 n ss values w given last) e h
 
 -- a value that was made
 value_taken : {State : Type 0} (Reads : Reader State) (made : Result Scalar TclKind) (passed next : ℕ) (values new : List Scalar) (ss : List ExpressionStep) (w : State) (given : Result Scalar Kind) (last : State)
@@ -163,11 +157,3 @@ steps_run {State = S} Reads left text expression start passed values rest now r 
   by_answer (Ok v) h = subst (λ o. RunsExpression Reads left text start (raised o) now) h all_run
   by_answer (Err (stop.Refused kind)) h = subst (λ o. RunsExpression Reads left text start (raised o) now) h all_run
   by_answer (Err stop.NoMemory) h = tt
-
--- ---- texts that are not run
-
-pub too_deep : {State : Type 0} (Reads : Reader State) (left : ℕ) (text : List ℕ) (expression : Expression) (w : State)
-    → ParsesTo text (Ok expression) → left < expression.levels → RunsExpression Reads left text w (Err (Tcl TooDeep)) w
-too_deep Reads left text expression w parsed beyond =
-    let levels : left < levels_of parsed.0 = subst (λ e. left < e.levels) parsed.2 beyond in
-    inl (parsed.0, parsed.1, inr (levels, refl, refl))

@@ -1,5 +1,5 @@
 -- Turns of a run, one behind the other, as functions answer them.
-use Rattle.std.proofs.Common.{◌≡◌, ◌+◌, ◌<◌, ◌++◌, ℕ, suc, drop, drop-cons, get_or, length, arith, List, [], ◌∷◌, Result, Ok, Err, refl, sym, ap, subst, ◌∙◌, append_assoc}
+use Rattle.std.proofs.Common.{◌≡◌, ◌+◌, ◌<◌, ◌++◌, ℕ, suc, drop, drop-cons, get_or, length, arith, List, ◌∷◌, Result, Ok, Err, refl, sym, ap, subst, ◌∙◌, append_assoc}
 use Rattle.sdc_base.specs.Gives.{Gives, Meets}
 use Rattle.sdc_base.specs.declared.memory.Stop.{Stop}
 use Rattle.sdc_base.specs.declared.memory.Stop.TheVariants as stop
@@ -64,10 +64,6 @@ answer_ok {A = T} (Err stop.NoMemory) v Rule h e = absurd (no_value e) where
 abbrev pub in_front : {A : Type 0} → List A → Result (List A) Kind → Result (List A) Kind
 in_front first (Ok others) = Ok (first ++ others)
 in_front first (Err kind) = Err kind
-
-pub in_front_none : {A : Type 0} (given : Result (List A) Kind) → in_front [] given ≡ given
-in_front_none (Ok others) = refl
-in_front_none (Err kind) = refl
 
 pub in_front_more : {A : Type 0} (first more : List A) (given : Result (List A) Kind) → in_front first (in_front more given) ≡ in_front (first ++ more) given
 in_front_more first more (Ok others) = ap (λ all. Ok all) (sym (append_assoc first more others))

@@ -14,7 +14,7 @@ use Rattle.sdc_model.specs.ScriptRun.{Enters, RunsBracket, RunsWithin}
 use Rattle.sdc_model.specs.WordValues.{Level, RunsJoined, RunsPart, RunsParts, RunsWord, RunsWords, in_body, in_bracket}
 use Rattle.tcl_eval.specs.Worlds.{Does, index_outcome}
 use Rattle.tcl_eval.proofs.CommandRuns.{level_at}
-use Rattle.tcl_eval.proofs.TurnFacts.{in_front, in_front_more, in_front_none, others_given}
+use Rattle.tcl_eval.proofs.TurnFacts.{in_front, in_front_more, others_given}
 
 -- ---- words
 
@@ -47,9 +47,6 @@ words_run level all start values rest now on e =
 abbrev pub PartsOn : {State : Type 0} → Level State → ℕ → List Part → World State → List ℕ → List Part → World State → Type 0
 PartsOn {State = S} level inside all start text rest now = (given : Result (List ℕ) Kind) (after : World S)
     → RunsParts level inside rest now given after → RunsParts level inside all start (in_front text given) after
-
-pub no_part_run : {State : Type 0} (level : Level State) (inside : ℕ) (all : List Part) (start : World State) → PartsOn level inside all start [] all start
-no_part_run level inside all start = λ given after h. subst (λ r. RunsParts level inside all start r after) (sym (in_front_none given)) h
 
 pub part_run : {State : Type 0} (level : Level State) (inside : ℕ) (all : List Part) (start : World State) (text more : List ℕ) (rest : List Part) (first : Part) (parts : List Part) (now : World State) (v : Value) (after : World State)
     → PartsOn level inside all start text rest now → rest ≡ first ∷ parts → RunsPart level inside first now (Ok v) after → more ≡ text ++ text_in level.host after.host v → PartsOn level inside all start more parts after
