@@ -23,6 +23,7 @@ fn calls_with_their_lines_and_values(rt: HostRuntime) -> Result<(), Fail> {
         ("set v 1\nset v 2\na $v [set v]", "3:a(2, 2)"),
         ("set v [b 7]; a $v", "1:b(7) 1:a(<7>)"),
         ("set v 1; set v [set w $v]; a $v$w", "1:a(11)"),
+        ("set n a; $n 1; [list set] m 2; a $m", "1:a(1) 1:a(2)"),
         // objects stay objects in a word that is one substitution, and are names beside a text
         (
             "set c [clocks]; a $c; a x$c",
@@ -39,6 +40,17 @@ fn calls_with_their_lines_and_values(rt: HostRuntime) -> Result<(), Fail> {
             "1:clocks() 1:clocks() 1:a(@1, 2)",
         ),
         ("foreach c [clocks] {a $c}", "1:clocks() 1:a(@1) 1:a(@1)"),
+    ] {
+        let shown = show_run(rt.alloc(), script)?;
+        assert_eq!(rt; (script, shown.as_str()), (script, wanted));
+    }
+    Ok(())
+}
+
+/// Scripts with built-in commands, whose values stand in the calls that the host got.
+#[test]
+fn built_in_commands_with_their_values(rt: HostRuntime) -> Result<(), Fail> {
+    for (script, wanted) in [
         // lists
         (
             "a [list] [list b {c d}] [concat {b  c} { d }]",
@@ -70,8 +82,6 @@ fn calls_with_their_lines_and_values(rt: HostRuntime) -> Result<(), Fail> {
         ),
         // an index stands for itself
         ("a data[3] \"d[*]\" [1:0]", "1:a(data[3], d[*], [1:0])"),
-        // a name from a substitution
-        ("set n a; $n 1; [list set] m 2; a $m", "1:a(1) 1:a(2)"),
     ] {
         let shown = show_run(rt.alloc(), script)?;
         assert_eq!(rt; (script, shown.as_str()), (script, wanted));
