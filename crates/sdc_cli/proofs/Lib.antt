@@ -22,3 +22,4 @@ pub mod PlaceSteps
 pub mod ReportTrees
 pub mod RisingPairs
 pub mod SaidClocks
+pub mod WriteFaultLines

@@ -1,13 +1,13 @@
 -- What writing the line of an answer leaves, and the answer that a run then ends with. This project's own rule.
 -- The line is made whole and then written; a write that fails changes no answer, and want of memory makes it that.
-use Rattle.std.specs.Prelude.{◌≡◌, ◌⊎◌, ℕ, Option}
+use Rattle.std.specs.Prelude.{◌≡◌, ◌⊎◌, ◌++◌, ℕ, Option, None}
 use Rattle.sdc_base.specs.Channels.{Written}
 use Rattle.sdc_base.specs.Files.{Reading}
 use Rattle.source_types.specs.declared.answers.Status.{Status}
 use Rattle.source_types.specs.declared.answers.Status.TheVariants as status
 use Rattle.source_types.specs.declared.command_lines.CommandLine.{CommandLine}
 use Rattle.sdc_model.specs.Answers.{CauseFits, IsLineFault, OnModes, ReadFaultFits, TooLargeFits, UsageFits}
-use Rattle.sdc_model.specs.FaultLine.{LeavesFaults, with_faults}
+use Rattle.sdc_model.specs.FaultLine.{LeavesFaults, fault_line, with_faults}
 use Rattle.sdc_cli.specs.Outputs.{IsOutputOf, IsTooLargeOf}
 
 -- the answer, or want of memory in its place; what is done stays done
@@ -20,6 +20,11 @@ abbrev pub Announces : Option CommandLine → Status → Type 0 → Status → W
 Announces line answer Failed ended before after =
     (with_faults before.faults after ≡ before)
     × LeavesFaults line (λ stood. stood ≡ answer) Failed ended before.faults after.faults
+
+-- where a run ends with a write fault, its line stands whole, unless a write failed once more in this call
+abbrev pub NamesWriteFault : Type 0 → Status → Written → Written → Type 0
+NamesWriteFault Failed status.WriteFault before after = (after.faults ≡ before.faults ++ fault_line None status.WriteFault) ⊎ Failed
+NamesWriteFault Failed ended before after = Unit {0}
 
 -- an answer with its causes in the words, in the files and in the counts of the faults of the inputs
 abbrev pub HasCauses : Option Reading → ℕ → ℕ → Option CommandLine → Status → Type 0

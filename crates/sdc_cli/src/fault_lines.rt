@@ -6,7 +6,7 @@ ghost use Rattle.sdc_base.specs.Channels.{WritesAll};
 ghost use Rattle.sdc_base.specs.Counting.{Rose};
 ghost use Rattle.sdc_model.specs.Answers.{OnTold};
 ghost use Rattle.sdc_model.specs.FaultLine.{fault_line, source_line, too_large_line, unread_line, word_at, word_of};
-ghost use Rattle.sdc_cli.specs.Announced.{Announces, EndsAs};
+ghost use Rattle.sdc_cli.specs.Announced.{Announces, EndsAs, NamesWriteFault};
 
 use crate::kind_names::kind_name;
 use itoa::Buffer;
@@ -17,7 +17,7 @@ use std::alloc::Global;
 /// Writes the line of a status to `Channel::Faults`, and gives the status that a run ends with: the same, or `NoMemory`
 /// where memory ran out while the line was made or written. No other line is begun then. A write that fails changes
 /// nothing. There is a command line where the words are one.
-#[tactic(auto, using(crate::proofs::Announcements::announced, crate::proofs::Announcements::announced_in_part, crate::proofs::Announcements::announced_without_memory, crate::proofs::Announcements::nothing_announced))]
+#[tactic(auto, using(crate::proofs::Announcements::announced, crate::proofs::Announcements::announced_in_part, crate::proofs::Announcements::announced_without_memory, crate::proofs::Announcements::nothing_announced, crate::proofs::WriteFaultLines::named, crate::proofs::WriteFaultLines::named_in_part, crate::proofs::WriteFaultLines::named_without_memory, crate::proofs::WriteFaultLines::nothing_named))]
 pub fn announce<O: Outputs>(
     alloc: Global,
     line: Option<&CommandLine>,
@@ -28,6 +28,8 @@ pub fn announce<O: Outputs>(
     ensures announces { OnTold (Announces (option_copied line.entry) status
         (Rose (O.faults outputs.old) (O.faults outputs.new)) result)
         (O.told outputs.old) (O.told outputs.new) }
+    ensures names { OnTold (NamesWriteFault (Rose (O.faults outputs.old) (O.faults outputs.new))
+        result) (O.told outputs.old) (O.told outputs.new) }
     ensures counts { O.faults outputs.old ≤ O.faults outputs.new }
 {
     if let Status::Done = status {
