@@ -2,7 +2,6 @@
 use Rattle.std.proofs.Common.{◌≡◌, ◌∙◌, ℕ, ◌+◌, List, [], length, refl, sym, ap, inr, subst}
 use Rattle.sdc_base.specs.Time.{IsUnit}
 use Rattle.timing_types.specs.declared.clocks.Pair.{Pair}
-use Rattle.timing_types.specs.declared.designs.Design.{Design}
 use Rattle.timing_types.specs.declared.merges.Merged.{Merged}
 use Rattle.timing_types.specs.declared.modes.Mode.{Mode}
 use Rattle.timing_types.specs.declared.views.ClockMap.{ClockMap}

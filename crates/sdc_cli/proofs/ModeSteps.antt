@@ -1,5 +1,5 @@
 -- Mode files read one after the other: what was read so far, and what the next file makes of it.
-use Rattle.std.proofs.Common.{◌≡◌, ◌+◌, ◌-◌, ◌≤◌, ℕ, suc, true, false, List, [], ◌∷◌, ◌++◌, length, drop, Option, Some, None, Result, Ok, Err, refl, sym, ◌∙◌, ap, subst, inl, inr, append_assoc, append-nil, arith}
+use Rattle.std.proofs.Common.{◌≡◌, ◌+◌, ◌-◌, ◌≤◌, ℕ, suc, List, [], ◌∷◌, ◌++◌, length, drop, Option, Some, None, Result, Ok, Err, refl, sym, ◌∙◌, ap, subst, inl, inr, append_assoc, append-nil}
 use Rattle.sdc_base.specs.declared.memory.At.{At}
 use Rattle.sdc_base.specs.declared.whole.TheConstants.{MOST_BYTES}
 use Rattle.sdc_base.specs.Files.{Reading, bytes_of, ReadsWhole}

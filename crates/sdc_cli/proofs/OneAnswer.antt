@@ -1,6 +1,6 @@
 -- A command line has one output, or is too large by one length, and never both.
 use Rattle.std.proofs.Common.{◌≡◌, ◌∙◌, ◌<◌, ◌≤◌, ℕ, List, [], ◌∷◌, Result, Ok, Err, inl, inr, length, sym, ap, subst, arith}
-use Rattle.std.specs.Prelude.{◌+◌, suc, Option, Some, None, IfOk}
+use Rattle.std.specs.Prelude.{◌+◌, suc, IfOk}
 use Rattle.sdc_base.specs.declared.outside.NamedBytes.{NamedBytes}
 use Rattle.sdc_base.specs.declared.whole.TheConstants.{MOST_BYTES}
 use Rattle.sdc_base.specs.Files.{Reading, bytes_of}
@@ -12,13 +12,12 @@ use Rattle.timing_types.specs.declared.merges.Merged.{Merged}
 use Rattle.timing_types.specs.declared.modes.Mode.{Mode}
 use Rattle.sdc_model.specs.Answers.{LineModes, files_of, first_place, most_clocks}
 use Rattle.sdc_model.specs.EdgesText.{AreReports}
-use Rattle.sdc_model.specs.MergedMode.{IsMergeOf}
-use Rattle.sdc_model.specs.ModeFiles.{Continues, SayModes, SaysFile, with_first, within_limit}
+use Rattle.sdc_model.specs.ModeFiles.{Continues, SayModes, SaysFile, with_first}
 use Rattle.sdc_model.specs.ModeMeaning.{Said}
-use Rattle.sdc_model.specs.PrintedFile.{ArePrintableClocks, ModesArePrintable}
+use Rattle.sdc_model.specs.PrintedFile.{ModesArePrintable}
 use Rattle.sdc_cli.specs.declared.reports.Report.TheVariants as report
-use Rattle.sdc_cli.specs.Laws.{HasOneAnswer, HasOutput, IsTooLarge, SayPrintableModes}
-use Rattle.sdc_cli.specs.MergeOutput.{IsMergeOutput, IsMergeTooLarge, merged_text}
+use Rattle.sdc_cli.specs.Laws.{HasOneAnswer, SayPrintableModes}
+use Rattle.sdc_cli.specs.MergeOutput.{IsMergeOutput, merged_text}
 use Rattle.sdc_cli.specs.MergeRows.{report_of}
 use Rattle.sdc_cli.specs.Outputs.{IsOutputOf, IsTooLargeOf}
 use Rattle.sdc_cli.specs.ReportTree.{report_bytes}

@@ -2,11 +2,9 @@
 use Rattle.std.proofs.Common.{◌≡◌, ◌∙◌, ℕ, List, [], length, sym, ap, subst}
 use Rattle.timing_types.specs.declared.clocks.Clock.{Clock}
 use Rattle.timing_types.specs.declared.clocks.Pair.{Pair}
-use Rattle.timing_types.specs.declared.merges.Merged.{Merged}
 use Rattle.timing_types.specs.declared.modes.Mode.{Mode}
 use Rattle.timing_types.specs.declared.views.ClockMap.{ClockMap}
 use Rattle.sdc_model.specs.Exclusive.{AreExclusivePairs}
-use Rattle.sdc_model.specs.MergedMode.{IsMergeOf}
 use Rattle.sdc_model.specs.PlainViews.{views_of}
 use Rattle.sdc_model.specs.PrintedFile.{IsOfClocks, ModesArePrintable}
 use Rattle.clock_map.proofs.OneMap.{map_once}

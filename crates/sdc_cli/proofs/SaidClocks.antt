@@ -20,7 +20,6 @@ use Rattle.timing_types.specs.declared.objects.Object.{Object}
 use Rattle.timing_types.specs.declared.objects.Value.{Value}
 use Rattle.sdc_model.specs.ClockCommands.{ClockOptions, clock_by, clock_given, clock_of, clock_options, clock_waved, clocks_named, groups_of, is_unit, most_file_clocks, no_options, value_texts}
 use Rattle.sdc_model.specs.ClockFile.{SoFar, clock_mode, is_name, is_taken, nothing, virtual_clock, wave_given}
-use Rattle.sdc_model.specs.HostCalls.{Answered}
 use Rattle.sdc_model.specs.ModeFiles.{or_too_many, within_limit}
 use Rattle.sdc_model.specs.ModeHost.{Answer, IsAnswered, adds_clock, adds_groups, answer, gives_clocks, keeps_where, mode_host}
 use Rattle.sdc_model.specs.ModeMeaning.{Said, SaysMode, said_of}

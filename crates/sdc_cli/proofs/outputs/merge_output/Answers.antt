@@ -1,6 +1,5 @@
 -- The bytes that were counted are those of the merge that is printed, since modes have one merge.
 use Rattle.std.proofs.Common.{◌≡◌, ◌≤◌, ◌∙◌, length, refl, sym, ap, arith, rules}
-use Rattle.sdc_base.specs.declared.whole.TheConstants.{MOST_BYTES}
 use Rattle.timing_types.specs.declared.merges.Merged.{Merged}
 use Rattle.sdc_model.specs.ClockCommands.{most_file_clocks}
 use Rattle.sdc_model.specs.PrintedFile.{IsPrintable}
