@@ -17,6 +17,6 @@ mod StepRuns
 pub mod StepsFacts
 mod TokenFacts
 mod TreesRead
-mod TurnFacts
+pub mod TurnFacts
 mod VariableFacts
 mod WordRuns

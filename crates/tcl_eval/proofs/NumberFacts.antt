@@ -1,5 +1,5 @@
 -- Numbers of an expression at their places.
-use Rattle.std.proofs.Common.{◌≡◌, ◌<◌, ◌≤◌, ◌+◌, ◌-◌, ◌==◌, ◌||◌, inl, inr, ◌⊎◌, ℕ, Bool, true, false, List, [], ◌∷◌, Result, Ok, Err, drop, take, length, get_or, refl, sym, ap, subst, ◌∙◌, arith}
+use Rattle.std.proofs.Common.{◌≡◌, ◌<◌, ◌≤◌, ◌+◌, ◌-◌, ◌==◌, ◌||◌, inl, inr, ◌⊎◌, ℕ, Bool, true, false, List, [], ◌∷◌, Result, Ok, Err, drop, length, get_or, refl, sym, ap, subst, ◌∙◌, arith}
 use Rattle.std.proofs.lemmas.Bool.{both_ways, cases_Bool, eqb-true, or_cases}
 use Rattle.std.proofs.lemmas.Bool.Decides.{nat_tests}
 use Rattle.std.proofs.lemmas.List.{drop_more, length-drop}
@@ -10,15 +10,15 @@ use Rattle.sdc_base.specs.declared.fixed.NumberError.TheVariants.{DivideByZero, 
 use Rattle.sdc_base.specs.Number.{Number, parts_of, read_number}
 use Rattle.source_types.specs.declared.expressions.ExpressionToken.TheVariants as token
 use Rattle.source_types.specs.declared.kinds.TclKind.TheVariants.{BadExpr}
-use Rattle.sdc_model.specs.Bytes.{before, begins_with, behind, is_digit}
+use Rattle.sdc_model.specs.Bytes.{begins_with, behind, is_digit}
 use Rattle.sdc_model.specs.ExpressionTokens.{begins_digits, begins_exponent, behind_decimals, behind_exponent, behind_number, behind_sign, malformed, number_front, number_token}
 use Rattle.sdc_model.specs.Row.{found, stops}
 use Rattle.tcl_words.specs.Operands.{IsFront}
 use Rattle.tcl_words.specs.Spans.{LeadsTo}
 use Rattle.tcl_words.specs.Steps.{between}
-use Rattle.tcl_words.proofs.RunFacts.{RunTo, run_stops}
+use Rattle.tcl_words.proofs.PieceFacts.{before_between, between_none}
+use Rattle.tcl_words.proofs.RunFacts.{RunTo, keeps_one, run_stops}
 use Rattle.tcl_eval.specs.Lexing.{LexedAt}
-use Rattle.tcl_eval.proofs.OperatorFacts.{keeps_one}
 
 -- ---- a byte that stands at a place
 
@@ -173,14 +173,6 @@ number_leads text at point mark to first second third =
 
 -- ---- a number that was read
 
-before_is : (text : List ℕ) (at to : ℕ) → at ≤ to → to ≤ length text → before (drop at text) (drop to text) ≡ between text at to
-before_is text at to forward within =
-    let n : length (drop at text) - length (drop to text) ≡ to - at = omega (arith, forward, within, length-drop at text, length-drop to text) in
-    ap (λ (k : ℕ). take k (drop at text)) n
-
-nothing_read : (text : List ℕ) (at : ℕ) → between text at at ≡ []
-nothing_read text at = let e : at - at ≡ 0 = omega arith in ap (λ (n : ℕ). take n (drop at text)) e
-
 nothing_is_no_number : read_number [] ≡ Err NumberForm
 unfolding parts_of read_number
 nothing_is_no_number = refl
@@ -188,13 +180,13 @@ nothing_is_no_number = refl
 -- the front of a number, by the bytes that were read
 front_is : (text : List ℕ) (at to : ℕ) → LeadsTo text at to (behind_number (drop at text)) → number_token (drop at text) (behind_number (drop at text)) ≡ number_front (read_number (between text at to)) (drop to text)
 front_is text at to leads =
-    ap (number_token (drop at text)) leads.is ∙ ap (λ (t : List ℕ). number_front (read_number t) (drop to text)) (before_is text at to leads.forward leads.within)
+    ap (number_token (drop at text)) leads.is ∙ ap (λ (t : List ℕ). number_front (read_number t) (drop to text)) (before_between text at to leads.forward leads.within)
 
 further : (text : List ℕ) (at to : ℕ) (r : Result Number NumberError) → at ≤ to → read_number (between text at to) ≡ r → (r ≡ Err NumberForm → ⊥) → at < to
 further text at to r forward e form = elim (cases_Bool (at == to)) [
   | inl same ↦
       let h : at ≡ to = grind (arith, nat_tests) in
-      absurd (form (sym e ∙ (ap (λ (i : ℕ). read_number (between text at i)) (sym h) ∙ (ap read_number (nothing_read text at) ∙ nothing_is_no_number))))
+      absurd (form (sym e ∙ (ap (λ (i : ℕ). read_number (between text at i)) (sym h) ∙ (ap read_number (between_none text at) ∙ nothing_is_no_number))))
   | inr other ↦ grind (arith, nat_tests, forward)
 ]
 

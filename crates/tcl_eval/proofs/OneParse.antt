@@ -5,7 +5,7 @@ use Rattle.source_types.specs.declared.kinds.TclKind.{TclKind}
 use Rattle.sdc_model.specs.ExpressionForm.{IsExpression, Tree, spelling}
 use Rattle.sdc_model.specs.ExpressionSteps.{ParsesTo, kept}
 use Rattle.sdc_model.specs.ExpressionTokens.{StandsToken, all_read}
-use Rattle.tcl_words.proofs.OneOutcome.{row_once}
+use Rattle.sdc_model.proofs.RowFacts.{row_once}
 use Rattle.tcl_eval.proofs.OneTree.{trees_once}
 use Rattle.tcl_eval.proofs.TokenFacts.{token_once}
 

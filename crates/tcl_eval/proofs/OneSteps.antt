@@ -16,12 +16,10 @@ use Rattle.sdc_model.specs.ExpressionForm.{Tree, binary, levels_of, number, pare
 use Rattle.sdc_model.specs.ExpressionRun.{Evaluates, GoesOn, RunsExpression, RunsRight, RunsTree, Turn, as_scalar, then_on}
 use Rattle.sdc_model.specs.ExpressionValue.{changed, decided, joined, text_of}
 use Rattle.sdc_model.specs.HostCalls.{AsText, Calls, Host, World, text_outcome}
-use Rattle.sdc_model.specs.ListItems.{Lists}
 use Rattle.sdc_model.specs.NamedCommands.{EvaluatesText, ReadsWord}
-use Rattle.sdc_model.specs.Row.{found}
 use Rattle.sdc_model.specs.Turns.{Answers, Chosen, Looks, OnWith, Then, tcl_outcome}
 use Rattle.sdc_model.specs.WordValues.{Level, Opened, RunsJoined, RunsPart, RunsParts, RunsWord, RunsWords, in_bracket}
-use Rattle.tcl_words.proofs.ListRead.{list_of_is}
+use Rattle.tcl_words.proofs.ItemsOnce.{lists_once}
 use Rattle.tcl_eval.specs.Laws.{HostIsOne, IsOne}
 use Rattle.tcl_eval.proofs.OneParse.{expressions_once}
 
@@ -146,9 +144,6 @@ pub evaluates_one : {S : Type 0} (level : Level S) → LevelIsOne level → (tex
 evaluates_one level l text = expression_one (ReadsWord level) (λ inside w. text_one level.host _ (word_one level l inside w.parts)) level.left text
 
 -- ---- rules that only look
-
-lists_once : (text : List ℕ) (r s : Result (List (List ℕ)) TclKind) → Lists text r → Lists text s → r ≡ s
-lists_once text r s p q = sym (list_of_is text r p) ∙ list_of_is text s q
 
 pub items_one : (given : Value) → RuleIsOne (HasItems given)
 items_one (value.Text text) r s p q = p.2 ∙ ap (on_value (λ texts. Ok (map value.Text texts))) (lists_once text p.0 q.0 p.1 q.1) ∙ sym q.2

@@ -11,7 +11,7 @@ use Rattle.source_types.specs.declared.kinds.TclKind.TheVariants.{BadExpr}
 use Rattle.sdc_model.specs.ExpressionTokens.{TokenFront, operator_front, pair, pair_front, single, single_front}
 use Rattle.tcl_words.specs.Operands.{IsFront}
 use Rattle.tcl_words.specs.Spans.{Keeps}
-use Rattle.tcl_words.proofs.RunFacts.{drop_all}
+use Rattle.tcl_words.proofs.RunFacts.{drop_all, keeps_one}
 use Rattle.tcl_eval.specs.Lexing.{LexedAt, PairAt}
 
 -- what is spelled is ASCII
@@ -20,9 +20,6 @@ pair_small b c op e = grind (arith, nat_tests)
 
 pub single_small : (b : ℕ) (t : ExpressionToken) → single b ≡ Some t → b < 128
 single_small b t e = grind (arith, nat_tests)
-
-pub keeps_one : (text : List ℕ) (at : ℕ) → at < length text → get_or text at 0 < 128 → Keeps text at (at + 1)
-keeps_one text at within small = λ utf8 cuts. IsCharBoundary-after_ascii text at utf8 within small
 
 keeps_two : (text : List ℕ) (at : ℕ) → at + 2 ≤ length text → get_or text (at + 1) 0 < 128 → Keeps text at (at + 2)
 keeps_two text at within small =

@@ -1,5 +1,6 @@
 -- Tokens of an expression one behind the other, and what was read of them.
 use Rattle.std.proofs.Common.{◌≡◌, ◌≤◌, ◌+◌, ◌++◌, ℕ, List, [], ◌∷◌, Option, Some, None, Ok, Err, drop, length, refl, sym, ap, subst, ◌∙◌, arith}
+use Rattle.std.proofs.lemmas.Option.{none-some, same_Some}
 use Rattle.std.proofs.lemmas.Str.{IsCharBoundary-start}
 use Rattle.std.specs.Prelude.{option_and_then}
 use Rattle.std.specs.Str.{IsCharBoundary, IsUtf8}
@@ -14,6 +15,7 @@ use Rattle.sdc_model.specs.ExpressionForm.{IsExpression, Tree, spelling}
 use Rattle.sdc_model.specs.ExpressionSteps.{ParsesTo, kept}
 use Rattle.sdc_model.specs.ExpressionTokens.{AreTokens, Halt, StandsToken, TokenFront, all_read, malformed}
 use Rattle.sdc_model.specs.Row.{found, stops}
+use Rattle.sdc_model.proofs.RowFacts.{not_both, same_place, same_thing}
 use Rattle.tcl_eval.specs.declared.lexed.Lexed.{Lexed}
 use Rattle.tcl_eval.specs.declared.reading.Reading as code
 use Rattle.tcl_eval.specs.ExpressionReading.{Reading, ended, nothing_read, parsed, step, steps_on}
@@ -37,15 +39,6 @@ leads_more (y ∷ ys) x text rest next l stands = (l.0, l.1, leads_more ys x l.0
 row_of : (xs : List ExpressionToken) (text rest : List ℕ) (halt : Halt) → Leads xs text rest → StandsToken rest (stops halt) → AreTokens xs text halt
 row_of [] text rest halt e stands = subst (λ (t : List ℕ). StandsToken t (stops halt)) (sym e) stands
 row_of (x ∷ xs) text rest halt l stands = (l.0, l.1, row_of xs l.0 rest halt l.2 stands)
-
-same_thing : (x y : ExpressionToken) (p q : List ℕ) → ◌≡◌ {A = TokenFront} (found x p) (found y q) → x ≡ y
-same_thing x y p q h = cc
-
-same_place : (x y : ExpressionToken) (p q : List ℕ) → ◌≡◌ {A = TokenFront} (found x p) (found y q) → p ≡ q
-same_place x y p q h = cc
-
-not_both : (x : ExpressionToken) (p : List ℕ) (halt : Halt) → ◌≡◌ {A = TokenFront} (found x p) (stops halt) → ⊥
-not_both x p halt h = cc
 
 -- the rest of a row whose front is known
 pub record Behind (xs ys : List ExpressionToken) (rest : List ℕ) (halt : Halt) : Type 0 where
@@ -110,9 +103,6 @@ so_far_more text at reading next lexed so_far token e low = record {
 halt_apart : ◌≡◌ {A = TokenFront} (stops all_read) (stops malformed) → ⊥
 halt_apart h = cc
 
-none_some : (e : Expression) → None ≡ Some e → ⊥
-none_some e h = cc
-
 -- where something is malformed
 malformed_row : (more : List ExpressionToken) (rest : List ℕ) → StandsToken rest (stops malformed) → AreTokens more rest all_read → ⊥
 malformed_row [] rest stands row = halt_apart (token_once rest (stops all_read) (stops malformed) row stands)
@@ -143,7 +133,7 @@ so_far_refused text at reading lexed so_far token e = (refl, λ tree is. no_tree
       ap parsed b.is
       ∙ (ap (option_and_then ended) (front_then (so_far.tokens ++ lexed.token ∷ []) b.more nothing_read)
       ∙ ap (λ (o : Option Reading). option_and_then ended (option_and_then (steps_on b.more) o)) front) in
-      none_some (kept tree) (sym whole ∙ tree_parsed tree is.grouped)
+      none-some (kept tree) (sym whole ∙ tree_parsed tree is.grouped)
 
 -- what was read of all tokens
 pub all_of : (text : List ℕ) (at : ℕ) (reading : code.Reading) (so_far : ParsedSoFar text at reading) → parsed so_far.tokens ≡ ended (seen reading)
@@ -163,12 +153,9 @@ so_far_unended text at reading so_far ends e = (refl, λ tree is. no_tree tree i
       ap (λ (zs : List ExpressionToken). parsed (so_far.tokens ++ zs)) (no_more b.more b.row)
       ∙ (ap (option_and_then ended) (front_then so_far.tokens [] nothing_read)
       ∙ (ap (λ (o : Option Reading). option_and_then ended (option_and_then (steps_on []) o)) so_far.read ∙ sym e)) in
-      none_some (kept tree) (sym (ap parsed b.is ∙ front) ∙ tree_parsed tree is.grouped)
+      none-some (kept tree) (sym (ap parsed b.is ∙ front) ∙ tree_parsed tree is.grouped)
 
 -- ---- what is one
-
-some_same : (x y : Expression) → Some x ≡ Some y → x ≡ y
-some_same x y e = cc
 
 pub so_far_ended : (text : List ℕ) (at : ℕ) (reading : code.Reading) (e : Expression) → ParsedSoFar text at reading → TokenFrom text at (Ok None) → Some e ≡ ended (seen reading) → ParsesTo text (Ok e)
 so_far_ended text at reading e so_far ends h =
@@ -177,5 +164,5 @@ so_far_ended text at reading e so_far ends h =
     let row : AreTokens so_far.tokens text all_read = row_of so_far.tokens text (drop at text) all_read so_far.leads ends in (
       s.tree,
       record { spelled = subst (λ (ts : List ExpressionToken). AreTokens ts text all_read) (sym s.spells) row; grouped = s.grouped },
-      some_same e (kept s.tree) (sym whole ∙ (ap parsed (sym s.spells) ∙ tree_parsed s.tree s.grouped)),
+      same_Some e (kept s.tree) (sym whole ∙ (ap parsed (sym s.spells) ∙ tree_parsed s.tree s.grouped)),
     )

@@ -9,7 +9,6 @@ use Rattle.sdc_base.specs.declared.memory.Stop.{Stop}
 use Rattle.sdc_base.specs.declared.memory.Stop.TheVariants.{NoMemory, Refused}
 use Rattle.source_types.specs.declared.kinds.TclKind.{TclKind}
 use Rattle.sdc_model.specs.Bytes.{before, is_digit}
-use Rattle.sdc_model.specs.Commands.{ArePieces}
 use Rattle.sdc_model.specs.Enclosed.{behind_brace}
 use Rattle.sdc_model.specs.ExpressionTokens.{IsBracedToken, IsQuotedToken, IsTokenOf, Lexeme, StandsToken, TokenFront, behind_number, brace_opens, bracket_opens, closed_word, dollar_opens, from_token, is_passed, lexeme, all_read, number_opens, number_token, operator_front, other_byte, quote_opens, script_token, text_end, variable_token}
 use Rattle.sdc_model.specs.Pieces as grammar
@@ -17,11 +16,10 @@ use Rattle.sdc_model.specs.Row.{HasOne, found, stops}
 use Rattle.tcl_words.specs.declared.spelled.Spelled.{Spelled}
 use Rattle.tcl_words.specs.Operands.{IsFront, OperandAt}
 use Rattle.tcl_words.specs.Spans.{Keeps, LeadsTo}
-use Rattle.tcl_words.proofs.OneOutcome.{row_once}
-use Rattle.tcl_words.proofs.RunFacts.{drop_all}
+use Rattle.tcl_words.proofs.OneOutcome.{pieces_once}
+use Rattle.tcl_words.proofs.RunFacts.{drop_all, keeps_one}
 use Rattle.tcl_eval.specs.declared.lexed.Lexed.{Lexed}
 use Rattle.tcl_eval.specs.Lexing.{LexedAt, TokenFrom, word_token}
-use Rattle.tcl_eval.proofs.OperatorFacts.{keeps_one}
 
 -- ---- blanks before a token
 
@@ -152,9 +150,6 @@ token_found text from at lexed utf8 cuts leads m =
     (behind_blanks text from at (found lexed.token (drop lexed.end text)) leads m.0, omega (arith, leads.forward, m.1), m.2, m.3 utf8 (leads.keeps utf8 cuts))
 
 -- ---- one token stands at a place
-
-pieces_once : (form : grammar.Form) (ps qs : List grammar.Piece) (text : List ℕ) (e f : Result (List ℕ) TclKind) → ArePieces form ps text e → ArePieces form qs text f → (ps ≡ qs) × (e ≡ f)
-pieces_once form ps qs text e f r s = row_once (λ place stands. grammar.piece_at form place ≡ stands) (λ p a b x y. sym x ∙ y) ps qs text e f r s
 
 braced_once : (inside : List ℕ) (o : Option (List ℕ)) (f g : TokenFront) → IsBracedToken inside o f → IsBracedToken inside o g → f ≡ g
 braced_once inside None f g x y = x ∙ sym y

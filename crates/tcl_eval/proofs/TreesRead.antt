@@ -1,6 +1,7 @@
 -- Tokens that are read as a whole expression are those of a tree that is grouped.
 use Rattle.std.proofs.Common.{◌≡◌, ◌≤◌, ◌-◌, ◌++◌, ℕ, suc, max, Bool, true, false, List, [], ◌∷◌, Option, Some, None, is_none, if◌then◌else◌, refl, sym, ap, subst, ◌∙◌, arith, append_assoc}
 use Rattle.std.proofs.lemmas.List.{append-nil}
+use Rattle.std.proofs.lemmas.Option.{same_Some}
 use Rattle.std.specs.Prelude.{option_and_then}
 use Rattle.source_types.specs.declared.expressions.BinaryOperator.{BinaryOperator}
 use Rattle.source_types.specs.declared.expressions.BinaryOperator.TheVariants.{Add, And, Divide, Equal, Greater, GreaterEqual, Less, LessEqual, Multiply, NotEqual, Or, Remainder, Subtract, TextEqual, TextNotEqual}
@@ -50,9 +51,6 @@ unguarded false o y e = (refl, e)
 
 true_false : {A : Type 0} (b : Bool) → b ≡ true → b ≡ false → A
 true_false b e f = absurd (cc)
-
-some_same : {A : Type 0} (x y : A) → Some x ≡ Some y → x ≡ y
-some_same x y e = cc
 
 one_more : (fs : List Frame) (tokens ts : List ExpressionToken) → spelled fs ≡ tokens → spelled fs ++ ts ≡ tokens ++ ts
 one_more fs tokens ts e = ap (λ x. x ++ ts) e
@@ -130,8 +128,8 @@ binary_read tokens r op t read =
     )
 
 sign_token : (op : BinaryOperator) (u : UnaryOperator) → sign_of op ≡ Some u → unary_token u ≡ token.Operator op
-sign_token Add u e = subst (λ v. unary_token v ≡ token.Operator Add) (some_same Plus u e) refl
-sign_token Subtract u e = subst (λ v. unary_token v ≡ token.Operator Subtract) (some_same Minus u e) refl
+sign_token Add u e = subst (λ v. unary_token v ≡ token.Operator Add) (same_Some Plus u e) refl
+sign_token Subtract u e = subst (λ v. unary_token v ≡ token.Operator Subtract) (same_Some Minus u e) refl
 sign_token Or u e = absurd (cc)
 sign_token And u e = absurd (cc)
 sign_token Equal u e = absurd (cc)
@@ -158,7 +156,7 @@ operator_read tokens r next op None read e =
       on_due true h f = f
       on_due false h f = absurd (cc)
 operator_read tokens r next op (Some t) read e =
-    subst (λ n. ReadMore (tokens ++ token.Operator op ∷ []) n) (some_same (with_binary r op) next (not_due r.due (sym read.due) e)) (binary_read tokens r op t read) where
+    subst (λ n. ReadMore (tokens ++ token.Operator op ∷ []) n) (same_Some (with_binary r op) next (not_due r.due (sym read.due) e)) (binary_read tokens r op t read) where
       not_due : (b : Bool) → b ≡ false → (if b then option_and_then (with_unary r) (sign_of op) else Some (with_binary r op)) ≡ Some next → Some (with_binary r op) ≡ Some next
       not_due false h f = f
       not_due true h f = absurd (cc)
@@ -176,7 +174,7 @@ close_frames tokens r next t read ss (waiting.Open ∷ ws) red e =
       by_frames (prefix u ∷ fs) w are s = absurd (cc)
       by_frames (opened ∷ fs) w are s = (
         Some (parentheses red.tree),
-        subst (λ (m : Reading). Read (tokens ++ token.Close ∷ []) m (Some (parentheses red.tree))) (some_same (reading ss ws (r.levels - 1) r.deepest false) next e) (record {
+        subst (λ (m : Reading). Read (tokens ++ token.Close ∷ []) m (Some (parentheses red.tree))) (same_Some (reading ss ws (r.levels - 1) r.deepest false) next e) (record {
           frames = fs;
           stands = (are, red.grouped, accepts_tight (waits_of fs), omega arith);
           waits = cc;

@@ -1,8 +1,7 @@
 //! The run of a script (Tcl) over any host.
 //!
 //! It gives the layer above `eval`, which runs a script by the definitions of `sdc_model`, and the trait `Commands`, by
-//! which a host answers every command that is not built in. Beside these it gives `parse_expression` and what the operators
-//! of expressions make of values. It leaves to others what a host's commands do.
+//! which a host answers every command that is not built in. It leaves to others what a host's commands do.
 #![tactic(auto)]
 
 mod branches;
@@ -36,6 +35,3 @@ mod waiting;
 pub use evaluation::eval;
 pub use hosts::Commands;
 pub use laws::{expression_is_one, parse_is_one, runs_have_one_outcome};
-pub use operations::{changed, decided, joined};
-pub use parsing::parse_expression;
-pub use values::{computed, text_of, truth_of};

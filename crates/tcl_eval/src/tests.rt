@@ -6,7 +6,7 @@ mod scripts;
 mod steps;
 mod values;
 
-use crate::parse_expression;
+use crate::parsing::parse_expression;
 use sdc_base::{Fixed, NoMemory, NumberError, Stop};
 use sdc_model::{Expression, ExpressionStep, Part, Word};
 use std::alloc::Global;

@@ -1,15 +1,15 @@
--- Comments and what parts commands, step by step, and the lines that are passed.
-use Rattle.std.proofs.Common.{◌≡◌, ◌<◌, ◌≤◌, ◌+◌, ◌-◌, ◌==◌, ◌&&◌, ◌||◌, inl, inr, ℕ, suc, true, false, List, [], ◌∷◌, drop, take, length, get_or, min, if◌then◌else◌, refl, sym, ap, subst, ◌∙◌, arith}
+-- Comments and what parts commands, step by step.
+use Rattle.std.proofs.Common.{◌≡◌, ◌<◌, ◌≤◌, ◌+◌, ◌==◌, ◌&&◌, ◌||◌, inl, inr, ℕ, true, false, List, [], ◌∷◌, drop, length, get_or, refl, sym, ap, subst, ◌∙◌, arith}
 use Rattle.std.proofs.lemmas.Bool.{cases_Bool, eqb-true}
 use Rattle.std.proofs.lemmas.Bool.Decides.{nat_tests}
 use Rattle.std.proofs.lemmas.List.{drop_more}
 use Rattle.std.proofs.lemmas.Str.{IsCharBoundary-before_ascii, IsCharBoundary-end}
 use Rattle.std.specs.Str.{IsCharBoundary}
-use Rattle.sdc_model.specs.Bytes.{begins_with, is_end, is_space, last_line, line_after}
+use Rattle.sdc_model.specs.Bytes.{begins_with, is_end, is_space}
 use Rattle.sdc_model.specs.Continued.{Between, comment, continues, from_command, parting, taken}
 use Rattle.tcl_words.specs.Spans.{Keeps, Moves, StepsTo}
-use Rattle.tcl_words.proofs.RunFacts.{drop_all}
-use Rattle.tcl_words.proofs.GapFacts.{Second, keeps_one, two_places}
+use Rattle.tcl_words.proofs.RunFacts.{drop_all, keeps_one}
+use Rattle.tcl_words.proofs.GapFacts.{Second, two_places}
 
 -- ---- the end of a text
 
@@ -162,14 +162,3 @@ parting_steps_none text at within p q r = record {
   stays = λ e. ap (from_command parting) (drop_more text at 0 within) ∙ (parting_other (get_or text at 0) (drop (at + 1) text) p q r ∙ sym (drop_more text at 0 within));
   keeps = λ utf8 cuts. cuts;
 }
-
--- ---- lines
-
-pub take_cons : (n b : ℕ) (bs : List ℕ) → take (n + 1) (b ∷ bs) ≡ b ∷ take n bs
-take_cons n b bs = let e : n + 1 ≡ suc n = omega arith in rw e refl
-
--- the line so far, with the bytes that are left, is that of all
-pub line_more : (text : List ℕ) (at to line : ℕ) → at < to → to ≤ length text → line_after (take (to - at) (drop at text)) line ≡ line_after (take (to - (at + 1)) (drop (at + 1) text)) (if get_or text at 0 == 10 then min (line + 1) last_line else line)
-line_more text at to line less within =
-    let left : to - at ≡ to - (at + 1) + 1 = omega (arith, less) in
-    ap (λ (t : List ℕ). line_after t line) (ap (λ (n : ℕ). take n (drop at text)) left ∙ (ap (take (to - (at + 1) + 1)) (drop_more text at 0 (omega (arith, less, within))) ∙ take_cons (to - (at + 1)) (get_or text at 0) (drop (at + 1) text)))

@@ -1,5 +1,6 @@
 -- Words of a command and commands of a text, one behind the other.
 use Rattle.std.proofs.Common.{◌≡◌, ◌<◌, ◌≤◌, ◌-◌, ◌==◌, ◌++◌, ◌||◌, ◌&&◌, inl, inr, ◌⊎◌, ℕ, Bool, true, false, List, [], ◌∷◌, Option, Some, None, Result, Ok, Err, drop, take, length, refl, sym, ap, subst, ◌∙◌, arith, append_assoc}
+use Rattle.std.proofs.Math.Bool.{and-false}
 use Rattle.std.proofs.lemmas.Bool.{cases_Bool, both_ways, or_parts, not-true}
 use Rattle.std.proofs.lemmas.List.{length-drop, append-nil}
 use Rattle.std.specs.Str.{IsCharBoundary, IsUtf8}
@@ -19,6 +20,7 @@ use Rattle.tcl_words.specs.declared.reader.Words.{Words}
 use Rattle.tcl_words.specs.declared.spelled.Spelled.{Spelled}
 use Rattle.tcl_words.specs.Reads.{WordAt, WordFrom, WordsFrom, WordsTo, starts}
 use Rattle.tcl_words.specs.Spans.{LeadsTo, ends_command}
+use Rattle.tcl_words.proofs.PieceFacts.{before_between}
 use Rattle.tcl_words.proofs.RunFacts.{drop_all}
 
 -- ---- where words and commands begin
@@ -28,10 +30,6 @@ word_starts b bs p s r = rw (p, s, r) refl
 
 first_starts : (b : ℕ) (bs : List ℕ) → (is_space b || is_end b) ≡ false → (b == 92 && continues bs) ≡ false → starts (b ∷ bs) ≡ true
 first_starts b bs p r = rw (p, r) refl
-
-no_newline : (t : Bool) → (t && false) ≡ false
-no_newline true = refl
-no_newline false = refl
 
 gap_starts : (c : Bool) (xs : List ℕ) → (ends_command (behind_gap c xs) ≡ true) ⊎ (starts (behind_gap c xs) ≡ true)
 unfolding behind_gap
@@ -88,7 +86,7 @@ unfolding behind_gap
 gap_stays [] s = refl
 gap_stays (b ∷ bs) s =
     let none = or_parts (is_space b || is_end b) (b == 92 && continues bs) (not-true (is_space b || is_end b || (b == 92 && continues bs)) s) in
-    rw ((or_parts (is_space b) (is_end b) none.0).0, no_newline (b == 10), none.1) refl
+    rw ((or_parts (is_space b) (is_end b) none.0).0, and-false (b == 10), none.1) refl
 
 pub starts_long : (text : List ℕ) (at : ℕ) → starts (drop at text) ≡ true → at < length text
 starts_long text at s = longer (drop at text) refl s where
@@ -191,15 +189,10 @@ command_of : (text : List ℕ) (place : Place) (front : CommandFront) (words : L
 command_of [] place front words end s row e = absurd (both_ways false refl s)
 command_of (b ∷ bs) place front words end s row e = (words, end, row, e)
 
-before_is : (text : List ℕ) (from to : ℕ) → from ≤ to → to ≤ length text → before (drop from text) (drop to text) ≡ take (to - from) (drop from text)
-before_is text from to forward within =
-    let n : length (drop from text) - length (drop to text) ≡ to - from = omega (arith, forward, within, length-drop from text, length-drop to text) in
-    ap (λ (k : ℕ). take k (drop from text)) n
-
 pub first_found : (text : List ℕ) (from begin line line_here line_behind : ℕ) (read : Words) → LeadsTo text from begin (from_command parting (drop from text)) → starts (drop begin text) ≡ true → line_here ≡ line_after (take (begin - from) (drop from text)) line → WordsTo text begin read → line_behind ≡ line_after (take (read.end - begin) (drop begin text)) line_here → FirstFrom text from line (Ok (Some (record { command = record { line = line_here; words = read.words }; end = read.end; line = line_behind })))
 first_found text from begin line line_here line_behind read leads s here w behind =
-    let first : line_here ≡ line_after (before (drop from text) (drop begin text)) line = here ∙ ap (λ (t : List ℕ). line_after t line) (sym (before_is text from begin leads.forward leads.within)) in
-    let last : line_behind ≡ line_after (before (drop begin text) (drop read.end text)) line_here = behind ∙ ap (λ (t : List ℕ). line_after t line_here) (sym (before_is text begin read.end (omega (arith, w.forward)) w.within)) in
+    let first : line_here ≡ line_after (before (drop from text) (drop begin text)) line = here ∙ ap (λ (t : List ℕ). line_after t line) (sym (before_between text from begin leads.forward leads.within)) in
+    let last : line_behind ≡ line_after (before (drop begin text) (drop read.end text)) line_here = behind ∙ ap (λ (t : List ℕ). line_after t line_here) (sym (before_between text begin read.end (omega (arith, w.forward)) w.within)) in
     let place : Place = place_at (drop from text) line (drop begin text) in
     let front : CommandFront = found (record { line = line_here; words = read.words }) (record { text = drop read.end text; line = line_behind }) in (
       command_behind text from begin line front leads
@@ -212,7 +205,7 @@ first_found text from begin line line_here line_behind read leads s here w behin
 
 pub first_break : (text : List ℕ) (from begin line line_here : ℕ) (kind : TclKind) → LeadsTo text from begin (from_command parting (drop from text)) → starts (drop begin text) ≡ true → line_here ≡ line_after (take (begin - from) (drop from text)) line → WordsFrom text begin (Err kind) → FirstFrom text from line (Err (record { line = line_here; kind = kind }))
 first_break text from begin line line_here kind leads s here w =
-    let first : line_here ≡ line_after (before (drop from text) (drop begin text)) line = here ∙ ap (λ (t : List ℕ). line_after t line) (sym (before_is text from begin leads.forward leads.within)) in
+    let first : line_here ≡ line_after (before (drop from text) (drop begin text)) line = here ∙ ap (λ (t : List ℕ). line_after t line) (sym (before_between text from begin leads.forward leads.within)) in
     let place : Place = place_at (drop from text) line (drop begin text) in
     command_behind text from begin line (stops (Some (record { line = line_here; kind = kind }))) leads
     (command_of (drop begin text) place (stops (Some (record { line = line_here; kind = kind }))) w.0 (Err kind) s w.1

@@ -1,6 +1,6 @@
 -- Pieces that begin with a backslash, at their places.
-use Rattle.std.proofs.Common.{◌≡◌, ◌<◌, ◌+◌, ◌==◌, ℕ, true, false, List, [], ◌∷◌, Ok, drop, length, get_or, refl, sym, ap, subst, ◌∙◌, arith}
-use Rattle.std.proofs.lemmas.Bool.{both_ways}
+use Rattle.std.proofs.Common.{◌≡◌, ◌<◌, ◌+◌, ◌==◌, inl, inr, ℕ, true, false, List, [], ◌∷◌, Ok, drop, length, get_or, refl, sym, ap, subst, ◌∙◌, arith}
+use Rattle.std.proofs.lemmas.Bool.{both_ways, cases_Bool}
 use Rattle.std.proofs.lemmas.List.{drop_more}
 use Rattle.std.proofs.lemmas.Str.{IsCharBoundary-after_ascii}
 use Rattle.std.specs.Str.{IsCharBoundary}
@@ -16,8 +16,8 @@ use Rattle.tcl_words.specs.declared.runs.Form.{Form}
 use Rattle.tcl_words.specs.Forms.{form_of}
 use Rattle.tcl_words.specs.Spans.{LeadsTo}
 use Rattle.tcl_words.specs.Steps.{StepAt, escaped_outside, of_kind}
-use Rattle.tcl_words.proofs.RunFacts.{drop_all}
-use Rattle.tcl_words.proofs.PieceFacts.{byte_at, here, itself, keeps_behind, one, one_at, taken_at}
+use Rattle.tcl_words.proofs.RunFacts.{drop_all, keeps_one}
+use Rattle.tcl_words.proofs.PieceFacts.{byte_at, here, itself, one, one_at, taken_at}
 
 pub backslash_ends : (form : grammar.Form) (text : List ℕ) (at : ℕ) → at < length text → get_or text at 0 ≡ 92 → at + 1 ≡ length text → StepAt (grammar.behind_backslash form (drop (at + 1) text)) text at (Ok (itself at (at + 1)))
 backslash_ends form text at within e ends =
@@ -49,7 +49,7 @@ continued_bare text at within e = (ap (λ (t : List ℕ). stops (Ok t)) (sym (he
 blank_at : (front_ : grammar.PieceFront) (text : List ℕ) (at next : ℕ) → at < length text → get_or text at 0 ≡ 92 → front_ ≡ found (grammar.text (32 ∷ [])) (behind_continued (drop (at + 1) text)) → LeadsTo text (at + 1) next (behind_continued (drop (at + 1) text)) → StepAt front_ text at (Ok (one Blank next))
 blank_at front_ text at next within e f leads =
     one_at front_ text at next Blank (f ∙ ap (λ (t : List ℕ). found (grammar.text (32 ∷ [])) t) leads.is) (omega (arith, leads.forward)) leads.within
-    (λ utf8 cuts. leads.keeps utf8 (keeps_behind text at within (omega (arith, e)) utf8 cuts))
+    (λ utf8 cuts. leads.keeps utf8 (keeps_one text at within (omega (arith, e)) utf8 cuts))
 
 pub continued_braced : (text : List ℕ) (at next : ℕ) → at < length text → get_or text at 0 ≡ 92 → LeadsTo text (at + 1) next (behind_continued (drop (at + 1) text)) → StepAt (grammar.continued grammar.braced (drop (at + 1) text)) text at (Ok (one Blank next))
 continued_braced text at next within e leads = blank_at (grammar.continued grammar.braced (drop (at + 1) text)) text at next within e refl leads
@@ -81,3 +81,18 @@ escaped_other form text at to within e p q leads cuts =
     subst (λ (f : grammar.PieceFront). StepAt f text at (Ok (itself (at + 1) to)))
     (sym (outside_other (form_of form) (get_or text (at + 1) 0) (drop (at + 2) text) p q))
     (taken_at (form_of form) text at to within e leads cuts)
+
+-- ---- a backslash ends no bare word
+
+escaped_goes : (b : ℕ) (rest after : List ℕ) → grammar.escaped grammar.bare b rest ≡ stops (Ok after) → ⊥
+escaped_goes b rest after e = elim (cases_Bool (b == 110)) [
+  | inl p ↦ let f : found (grammar.text (10 ∷ [])) rest ≡ stops (Ok after) = rw p at e in cc
+  | inr p ↦ elim (cases_Bool (b == 116)) [
+    | inl q ↦ let f : found (grammar.text (9 ∷ [])) rest ≡ stops (Ok after) = rw (p, q) at e in cc
+    | inr q ↦ let f : grammar.with_run grammar.bare (b ∷ []) rest ≡ stops (Ok after) = rw (p, q) at e in cc
+  ]
+]
+
+pub backslash_goes : (rest after : List ℕ) → continues rest ≡ false → grammar.behind_backslash grammar.bare rest ≡ stops (Ok after) → ⊥
+backslash_goes [] after h e = cc
+backslash_goes (b ∷ bs) after h e = let f : grammar.escaped grammar.bare b bs ≡ stops (Ok after) = rw h at e in escaped_goes b bs after f

@@ -1,5 +1,6 @@
 -- Gaps between words, step by step.
 use Rattle.std.proofs.Common.{◌≡◌, ◌<◌, ◌≤◌, ◌+◌, ◌==◌, ◌&&◌, inl, inr, ℕ, Bool, true, false, List, [], ◌∷◌, drop, length, get_or, refl, sym, ap, subst, ◌∙◌, arith}
+use Rattle.std.proofs.Math.Bool.{and-false}
 use Rattle.std.proofs.lemmas.Bool.{cases_Bool, both_ways, eqb-true, and_parts}
 use Rattle.std.proofs.lemmas.Bool.Decides.{nat_tests}
 use Rattle.std.proofs.lemmas.List.{drop_more, length-drop}
@@ -8,7 +9,7 @@ use Rattle.std.specs.Str.{IsCharBoundary}
 use Rattle.sdc_model.specs.Bytes.{begins_with, behind, is_end, is_space}
 use Rattle.sdc_model.specs.Continued.{behind_continued, behind_gap, behind_newline, continues}
 use Rattle.tcl_words.specs.Spans.{Keeps, LeadsTo, Moves, StepsTo}
-use Rattle.tcl_words.proofs.RunFacts.{drop_all}
+use Rattle.tcl_words.proofs.RunFacts.{drop_all, keeps_one, space_ascii}
 
 -- ---- continued lines
 
@@ -73,10 +74,6 @@ two_places text at s =
     ∙ (ap (λ (b : ℕ). b ∷ drop (at + 1) text) s.first
     ∙ ap (λ (t : List ℕ). 13 ∷ t) (drop_more text (at + 1) 0 s.within ∙ (ap (λ (b : ℕ). b ∷ drop (at + 1 + 1) text) s.newline ∙ ap (λ (i : ℕ). 10 ∷ drop i text) place)))
 
--- right behind an ASCII byte
-pub keeps_one : (text : List ℕ) (at : ℕ) → at < length text → get_or text at 0 < 128 → Keeps text at (at + 1)
-keeps_one text at within small = λ utf8 cuts. IsCharBoundary-after_ascii text at utf8 within small
-
 pub newline_leads : (text : List ℕ) (at : ℕ) → at < length text → get_or text at 0 ≡ 10 → LeadsTo text at (at + 1) (behind_newline (drop at text))
 newline_leads text at within e = record {
   is = ap behind_newline (drop_more text at 0 within ∙ ap (λ (b : ℕ). b ∷ drop (at + 1) text) e) ∙ newline_one (drop (at + 1) text);
@@ -117,16 +114,9 @@ gap_backslash bs h = rw h refl
 gap_continued : (b : ℕ) (bs : List ℕ) → b ≡ 92 → continues bs ≡ true → behind_gap false (b ∷ bs) ≡ behind_gap false (behind_newline bs)
 gap_continued b bs e h = subst (λ (c : ℕ). behind_gap false (c ∷ bs) ≡ behind_gap false (behind_newline bs)) (sym e) (gap_backslash bs h ∙ gap_newline bs h)
 
-no_newline : (t : Bool) → (t && false) ≡ false
-no_newline true = refl
-no_newline false = refl
-
 gap_other : (b : ℕ) (bs : List ℕ) → is_space b ≡ false → (b == 92 && continues bs) ≡ false → behind_gap false (b ∷ bs) ≡ b ∷ bs
 unfolding behind_gap
-gap_other b bs p q = rw (p, q, no_newline (b == 10)) refl
-
-space_small : (b : ℕ) → is_space b ≡ true → b < 128
-space_small b p = grind (arith, nat_tests)
+gap_other b bs p q = rw (p, q, and-false (b == 10)) refl
 
 end_small : (b : ℕ) → is_end b ≡ true → b < 128
 end_small b p = grind (arith, nat_tests)
@@ -135,7 +125,7 @@ pub gap_steps_space : (text : List ℕ) (at : ℕ) → at < length text → is_s
 gap_steps_space text at within p = record {
   moves = record { same = ap (behind_gap false) (drop_more text at 0 within) ∙ gap_space (get_or text at 0) (drop (at + 1) text) p; forward = omega arith; within = omega (arith, within) };
   stays = λ e. absurd (omega (arith, e));
-  keeps = keeps_one text at within (space_small (get_or text at 0) p);
+  keeps = keeps_one text at within (space_ascii (get_or text at 0) p);
 }
 
 pub gap_steps_continued : (text : List ℕ) (at next : ℕ) → at < length text → get_or text at 0 ≡ 92 → continues (drop (at + 1) text) ≡ true → LeadsTo text (at + 1) next (behind_newline (drop (at + 1) text)) → StepsTo (behind_gap false) text at next

@@ -19,6 +19,8 @@ use Rattle.tcl_words.specs.declared.runs.Form.TheVariants.{Bare, Braced, Quoted}
 use Rattle.tcl_words.specs.ItemReads.{ItemAt, ItemFrom, ItemPiecesFrom, ItemPiecesTo, starts_item}
 use Rattle.tcl_words.specs.Nests.{ClosesAt}
 use Rattle.tcl_words.specs.Steps.{between}
+use Rattle.tcl_words.proofs.EscapeFacts.{backslash_goes}
+use Rattle.tcl_words.proofs.PieceFacts.{inner_is}
 
 -- ---- items by their first byte
 
@@ -108,11 +110,6 @@ pub braced_stop : (text inner : List ℕ) (from : ℕ) (stop : Stop TclKind) →
 braced_stop text inner from (Refused kind) m = braced_whole text inner from kind m
 braced_stop text inner from NoMemory m = tt
 
-inner_is : (text : List ℕ) (from to : ℕ) → from + 1 < to → to ≤ length text → before (drop (from + 1) text) (125 ∷ drop to text) ≡ between text (from + 1) (to - 1)
-inner_is text from to less within =
-    let n : length (drop (from + 1) text) - length (125 ∷ drop to text) ≡ to - 1 - (from + 1) = omega (arith, less, within, length-drop (from + 1) text, length-drop to text) in
-    ap (λ (k : ℕ). take k (drop (from + 1) text)) n
-
 inner_row : (text inner : List ℕ) (from to : ℕ) (item : Item) → ClosesAt text (from + 1) to (behind_brace (drop (from + 1) text)) → inner ≡ between text (from + 1) (to - 1) → (p : ItemPiecesTo Braced inner 0 item) → AreItemPieces grammar.braced p.pieces (before (drop (from + 1) text) (125 ∷ drop to text)) (Ok [])
 inner_row text inner from to item c e p =
     let whole : AreItemPieces grammar.braced p.pieces inner (Ok []) = subst (λ (t : Result (List ℕ) TclKind). AreItemPieces grammar.braced p.pieces inner t) (inner_end p.pieces inner (Ok (drop item.end inner)) p.row) p.row in
@@ -135,19 +132,6 @@ braced_extra text inner from to item within e c i p follows =
     braced_front text from to (stops (Some ExtraAfterBrace)) c within e (p.pieces, inner_row text inner from to item c i p, extra p.pieces (drop to text) follows)
 
 -- ---- a bare item
-
-escaped_goes : (b : ℕ) (rest after : List ℕ) → grammar.escaped grammar.bare b rest ≡ stops (Ok after) → ⊥
-escaped_goes b rest after e = elim (cases_Bool (b == 110)) [
-  | inl p ↦ let f : found (grammar.text (10 ∷ [])) rest ≡ stops (Ok after) = rw p at e in cc
-  | inr p ↦ elim (cases_Bool (b == 116)) [
-    | inl q ↦ let f : found (grammar.text (9 ∷ [])) rest ≡ stops (Ok after) = rw (p, q) at e in cc
-    | inr q ↦ let f : grammar.with_run grammar.bare (b ∷ []) rest ≡ stops (Ok after) = rw (p, q) at e in cc
-  ]
-]
-
-backslash_goes : (rest after : List ℕ) → continues rest ≡ false → grammar.behind_backslash grammar.bare rest ≡ stops (Ok after) → ⊥
-backslash_goes [] after h e = cc
-backslash_goes (b ∷ bs) after h e = let f : grammar.escaped grammar.bare b bs ≡ stops (Ok after) = rw h at e in escaped_goes b bs after f
 
 -- a byte of an item begins a piece
 pub bare_goes : (b : ℕ) (bs after : List ℕ) → starts_item (b ∷ bs) ≡ true → item_piece_at grammar.bare (b ∷ bs) ≡ stops (Ok after) → ⊥

@@ -7,7 +7,7 @@ use Rattle.sdc_model.specs.Continued.{continues}
 use Rattle.sdc_model.specs.ListItems.{behind_parting, parts_items}
 use Rattle.tcl_words.specs.ItemReads.{starts_item}
 use Rattle.tcl_words.specs.Spans.{LeadsTo, StepsTo}
-use Rattle.tcl_words.proofs.PieceFacts.{keeps_behind}
+use Rattle.tcl_words.proofs.RunFacts.{keeps_one}
 
 pub parting_nil : behind_parting [] ≡ []
 unfolding behind_parting
@@ -21,7 +21,7 @@ parting_backslash : (bs : List ℕ) → continues bs ≡ true → behind_parting
 unfolding behind_parting
 parting_backslash bs h = rw h refl
 
-parting_other : (b : ℕ) (bs : List ℕ) → parts_items b ≡ false → (b == 92 && continues bs) ≡ false → behind_parting (b ∷ bs) ≡ b ∷ bs
+pub parting_other : (b : ℕ) (bs : List ℕ) → parts_items b ≡ false → (b == 92 && continues bs) ≡ false → behind_parting (b ∷ bs) ≡ b ∷ bs
 unfolding behind_parting
 parting_other b bs p q = rw (p, q) refl
 
@@ -32,7 +32,7 @@ pub steps_byte : (text : List ℕ) (at : ℕ) → at < length text → parts_ite
 steps_byte text at within p = record {
   moves = record { same = ap behind_parting (drop_more text at 0 within) ∙ parting_byte (get_or text at 0) (drop (at + 1) text) p; forward = omega arith; within = omega (arith, within) };
   stays = λ e. absurd (omega (arith, e));
-  keeps = keeps_behind text at within (parts_small (get_or text at 0) p);
+  keeps = keeps_one text at within (parts_small (get_or text at 0) p);
 }
 
 pub steps_continued : (text : List ℕ) (at : ℕ) → at < length text → get_or text at 0 ≡ 92 → continues (drop (at + 1) text) ≡ true → StepsTo behind_parting text at (at + 1)
@@ -44,7 +44,7 @@ steps_continued text at within e h = record {
     within = omega (arith, within);
   };
   stays = λ same. absurd (omega (arith, same));
-  keeps = keeps_behind text at within (omega (arith, e));
+  keeps = keeps_one text at within (omega (arith, e));
 }
 
 pub steps_none : (text : List ℕ) (at : ℕ) → at < length text → parts_items (get_or text at 0) ≡ false → (get_or text at 0 == 92 && continues (drop (at + 1) text)) ≡ false → StepsTo behind_parting text at at

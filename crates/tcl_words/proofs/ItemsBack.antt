@@ -11,6 +11,7 @@ use Rattle.sdc_model.specs.ListItems.{AreItemPieces, AreItems, IsBracedItem, IsI
 use Rattle.sdc_model.specs.ListText.{in_braces, is_taken, item_text, list_text, more_items, needs_backslashes, needs_braces, plain_item, taken_as, with_backslashes}
 use Rattle.sdc_model.specs.Pieces as grammar
 use Rattle.sdc_model.specs.Row.{found, stops}
+use Rattle.tcl_words.proofs.ItemGaps.{parting_other}
 use Rattle.tcl_words.proofs.TakenFacts.{item_plain as plain_is, item_taken as taken_is}
 use Rattle.tcl_words.proofs.TakenBack.{PiecesBack, RestBack, blank_back, end_back, item_back, no_newline_behind, not_continued, taken_itself, with_none, with_other, with_taken}
 
@@ -19,10 +20,6 @@ use Rattle.tcl_words.proofs.TakenBack.{PiecesBack, RestBack, blank_back, end_bac
 -- an item stands at a place, and no byte of it parts items
 abbrev Stands : List ℕ → List ℕ → List ℕ → Type 0
 Stands item place rest = IsItem place (found item rest) × (behind_parting place ≡ place)
-
-parting_other : (b : ℕ) (bs : List ℕ) → parts_items b ≡ false → (b == 92 && continues bs) ≡ false → behind_parting (b ∷ bs) ≡ b ∷ bs
-unfolding behind_parting
-parting_other b bs p q = rw (p, q) refl
 
 bare_by : (b : ℕ) → (b == 123) ≡ false → (b == 34) ≡ false → form_by b ≡ grammar.bare
 bare_by b p q = rw (p, q) refl

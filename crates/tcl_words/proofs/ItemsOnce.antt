@@ -6,7 +6,7 @@ use Rattle.sdc_model.specs.Enclosed.{behind_brace}
 use Rattle.sdc_model.specs.ListItems.{AreItemPieces, IsBracedItem, IsItem, IsItemOf, ItemFront, Lists, StandsItem, behind_parting, ended_bare_item, ended_closed_item, form_by, item_piece_at}
 use Rattle.sdc_model.specs.Pieces as grammar
 use Rattle.sdc_model.specs.Row.{HasOne}
-use Rattle.tcl_words.proofs.OneOutcome.{row_once}
+use Rattle.sdc_model.proofs.RowFacts.{row_once}
 
 pieces_once : (form : grammar.Form) (ps qs : List grammar.Piece) (text : List ℕ) (e f : Result (List ℕ) TclKind) → AreItemPieces form ps text e → AreItemPieces form qs text f → (ps ≡ qs) × (e ≡ f)
 pieces_once form ps qs text e f r s = row_once (λ place stands. item_piece_at form place ≡ stands) (λ p a b x y. sym x ∙ y) ps qs text e f r s

@@ -9,6 +9,7 @@ use Rattle.sdc_model.specs.Enclosed as grammar
 use Rattle.tcl_words.specs.declared.enclosed.Open.{Open}
 use Rattle.tcl_words.specs.declared.enclosed.Nest.{Nest}
 use Rattle.tcl_words.specs.Nests.{ClosesAt, nest_of, open_of, opens_of}
+use Rattle.tcl_words.proofs.PieceFacts.{here}
 use Rattle.tcl_words.proofs.RunFacts.{drop_all}
 
 -- the last one that was opened is the innermost
@@ -45,9 +46,6 @@ closed begins bs = refl
 never : (inner : grammar.Open) (outer : List grammar.Open) (begins : Bool) → grammar.behind_open (inner ∷ outer) begins false [] ≡ None
 unfolding grammar.behind_open
 never inner outer begins = refl
-
-here : (text : List ℕ) (at b : ℕ) → at < length text → get_or text at 0 ≡ b → drop at text ≡ b ∷ drop (at + 1) text
-here text at b within e = drop_more text at 0 within ∙ ap (λ (c : ℕ). c ∷ drop (at + 1) text) e
 
 pub nest_skips : (whole : Option (List ℕ)) (text : List ℕ) (from at : ℕ) (nest : Nest) (begins : Bool) → InNest whole text from at nest begins → at < length text → get_or text at 0 ≡ 92 → at + 1 < length text → InNest whole text from (at + 2) nest (get_or text (at + 1) 0 == 10)
 nest_skips whole text from at nest begins n within e more =

@@ -1,5 +1,5 @@
 -- Pieces of a word at their places.
-use Rattle.std.proofs.Common.{◌≡◌, ◌<◌, ◌≤◌, ◌+◌, ◌-◌, ◌==◌, ◌++◌, inl, inr, ℕ, Bool, true, false, List, [], ◌∷◌, Result, Ok, drop, take, length, get_or, refl, sym, ap, subst, ◌∙◌, arith}
+use Rattle.std.proofs.Common.{◌≡◌, ◌<◌, ◌≤◌, ◌+◌, ◌-◌, ◌==◌, ◌++◌, inl, inr, ℕ, suc, Bool, true, false, List, [], ◌∷◌, Result, Ok, drop, take, length, get_or, refl, sym, ap, subst, ◌∙◌, arith}
 use Rattle.std.proofs.lemmas.Bool.{cases_Bool, both_ways, eqb-true}
 use Rattle.std.proofs.lemmas.Bool.Decides.{nat_tests}
 use Rattle.std.proofs.lemmas.List.{drop_more, length-drop}
@@ -20,10 +20,12 @@ use Rattle.tcl_words.specs.declared.runs.Form.TheVariants.{Bare, Braced, Quoted}
 use Rattle.tcl_words.specs.Forms.{form_of}
 use Rattle.tcl_words.specs.Spans.{Keeps, LeadsTo}
 use Rattle.tcl_words.specs.Steps.{StepAt, between, end_of, of_kind}
-use Rattle.tcl_words.proofs.BetweenFacts.{take_cons}
-use Rattle.tcl_words.proofs.RunFacts.{drop_all}
+use Rattle.tcl_words.proofs.RunFacts.{drop_all, keeps_one}
 
 -- ---- bytes between places
+
+take_cons : (n b : ℕ) (bs : List ℕ) → take (n + 1) (b ∷ bs) ≡ b ∷ take n bs
+take_cons n b bs = let e : n + 1 ≡ suc n = omega arith in rw e refl
 
 pub behind_short : (test : ℕ → Bool) (xs : List ℕ) → length (behind test xs) ≤ length xs
 unfolding behind
@@ -45,10 +47,16 @@ front_before test (b ∷ bs) = elim (cases_Bool (test b)) [
       rw (p, none) refl
 ]
 
-before_between : (text : List ℕ) (from to : ℕ) → from ≤ to → to ≤ length text → before (drop from text) (drop to text) ≡ between text from to
+pub before_between : (text : List ℕ) (from to : ℕ) → from ≤ to → to ≤ length text → before (drop from text) (drop to text) ≡ between text from to
 before_between text from to forward within =
     let n : length (drop from text) - length (drop to text) ≡ to - from = omega (arith, forward, within, length-drop from text, length-drop to text) in
     ap (λ (k : ℕ). take k (drop from text)) n
+
+-- inside what a brace closes
+pub inner_is : (text : List ℕ) (from to : ℕ) → from + 1 < to → to ≤ length text → before (drop (from + 1) text) (125 ∷ drop to text) ≡ between text (from + 1) (to - 1)
+inner_is text from to less within =
+    let n : length (drop (from + 1) text) - length (125 ∷ drop to text) ≡ to - 1 - (from + 1) = omega (arith, less, within, length-drop (from + 1) text, length-drop to text) in
+    ap (λ (k : ℕ). take k (drop (from + 1) text)) n
 
 pub front_between : (test : ℕ → Bool) (text : List ℕ) (from to : ℕ) → LeadsTo text from to (behind test (drop from text)) → front test (drop from text) ≡ between text from to
 front_between test text from to leads =
@@ -67,10 +75,6 @@ between_one : (text : List ℕ) (at : ℕ) → at < length text → between text
 between_one text at within = between_more text at (at + 1) (omega arith) (omega (arith, within)) ∙ ap (λ (t : List ℕ). get_or text at 0 ∷ t) (between_none text (at + 1))
 
 -- ---- steps
-
--- what is right behind an ASCII byte
-pub keeps_behind : (text : List ℕ) (at : ℕ) → at < length text → get_or text at 0 < 128 → Keeps text at (at + 1)
-keeps_behind text at within small = λ utf8 cuts. IsCharBoundary-after_ascii text at utf8 within small
 
 abbrev pub itself : ℕ → ℕ → Step
 itself from to = Found (record { kind = Text; from = from; to = to; next = to })
@@ -104,7 +108,7 @@ taken_at form text at to within e leads cuts =
     between_more text (at + 1) to (omega (arith, leads.forward)) leads.within ∙ ap (λ (i : ℕ). get_or text (at + 1) 0 ∷ between text i to) place in
     itself_at (grammar.with_run form (get_or text (at + 1) 0 ∷ []) (drop (at + 2) text)) text at (at + 1) to
     (run_found form text (get_or text (at + 1) 0 ∷ []) (at + 1) (at + 2) to leads bytes)
-    (omega (arith, leads.forward)) (omega (arith, leads.forward)) leads.within (keeps_behind text at (omega (arith, within)) (omega (arith, e))) (λ utf8 here. cuts)
+    (omega (arith, leads.forward)) (omega (arith, leads.forward)) leads.within (keeps_one text at (omega (arith, within)) (omega (arith, e))) (λ utf8 here. cuts)
 
 -- a backslash that stays, with a byte and the run behind it
 pub kept_at : (text : List ℕ) (at to : ℕ) → at + 1 < length text → get_or text at 0 ≡ 92 → LeadsTo text (at + 2) to (behind (grammar.is_itself grammar.braced) (drop (at + 2) text)) → IsCharBoundary text to → StepAt (grammar.escaped grammar.braced (get_or text (at + 1) 0) (drop (at + 2) text)) text at (Ok (itself at to))
@@ -130,7 +134,7 @@ pub byte_at : (front_ : grammar.PieceFront) (text : List ℕ) (at b : ℕ) → a
 byte_at front_ text at b within e small f =
     itself_at front_ text at at (at + 1)
     (f ∙ ap (λ (t : List ℕ). found (grammar.text t) (drop (at + 1) text)) (sym (between_one text at within ∙ ap (λ (c : ℕ). c ∷ []) e)))
-    (omega arith) (omega arith) (omega (arith, within)) (λ utf8 here. here) (keeps_behind text at within (omega (arith, e, small)))
+    (omega arith) (omega arith) (omega (arith, within)) (λ utf8 here. here) (keeps_one text at within (omega (arith, e, small)))
 
 -- a text from a place of a byte on
 pub here : (text : List ℕ) (at b : ℕ) → at < length text → get_or text at 0 ≡ b → drop at text ≡ b ∷ drop (at + 1) text
@@ -144,7 +148,7 @@ text_ends text at e = (ap (λ (t : List ℕ). stops (Ok t)) (sym (drop_all text 
 pub word_ends : (form : Form) (text : List ℕ) (at : ℕ) → at < length text → grammar.ends_word (form_of form) (get_or text at 0) ≡ true → StepAt (grammar.at_word_end (form_of form) (get_or text at 0) (drop (at + 1) text)) text at (Ok (Ends (end_of form at)))
 word_ends Braced text at within p = absurd (both_ways false refl p)
 word_ends Quoted text at within p =
-    (refl, omega arith, omega (arith, within), keeps_behind text at within (omega (arith, eqb-true (get_or text at 0) 34 p)))
+    (refl, omega arith, omega (arith, within), keeps_one text at within (omega (arith, eqb-true (get_or text at 0) 34 p)))
 word_ends Bare text at within p = (ap (λ (t : List ℕ). stops (Ok t)) (sym (drop_more text at 0 within)), omega arith, omega (arith, within), λ utf8 cuts. cuts)
 
 -- ---- what the grammar has, by the first byte

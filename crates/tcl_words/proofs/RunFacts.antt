@@ -68,7 +68,11 @@ run_stops test text from at run fails =
 
 -- ---- characters
 
-space_ascii : (b : ℕ) → is_space b ≡ true → b < 128
+-- right behind an ASCII byte
+pub keeps_one : (text : List ℕ) (at : ℕ) → at < length text → get_or text at 0 < 128 → Keeps text at (at + 1)
+keeps_one text at within small = λ utf8 cuts. IsCharBoundary-after_ascii text at utf8 within small
+
+pub space_ascii : (b : ℕ) → is_space b ≡ true → b < 128
 space_ascii b p = grind (arith, nat_tests)
 
 name_ascii : (b : ℕ) → is_name_byte b ≡ true → b < 128

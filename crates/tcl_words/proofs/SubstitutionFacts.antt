@@ -21,8 +21,8 @@ use Rattle.tcl_words.specs.declared.pieces.Step.TheVariants.{Found}
 use Rattle.tcl_words.specs.Nests.{ClosesAt}
 use Rattle.tcl_words.specs.Spans.{Keeps, LeadsTo}
 use Rattle.tcl_words.specs.Steps.{StepAt, between}
-use Rattle.tcl_words.proofs.RunFacts.{drop_all}
-use Rattle.tcl_words.proofs.PieceFacts.{between_more, between_none, byte_at, front_between, here, itself, keeps_behind}
+use Rattle.tcl_words.proofs.RunFacts.{drop_all, keeps_one}
+use Rattle.tcl_words.proofs.PieceFacts.{between_more, between_none, byte_at, front_between, here, itself}
 
 -- ---- a variable
 
@@ -57,7 +57,7 @@ dollar_element text at to leads other p =
 pub dollar_named : (text : List ℕ) (at to : ℕ) → at < length text → get_or text at 0 ≡ 36 → LeadsTo text (at + 1) to (behind is_name_byte (drop (at + 1) text)) → (to ≡ at + 1 → ⊥) → begins_with 40 (drop to text) ≡ false → StepAt (dollar_front text at) text at (Ok (Found (record { kind = Variable; from = at + 1; to = to; next = to })))
 dollar_named text at to within e leads other p =
     let name = between_more text (at + 1) to (later to at leads.forward other) leads.within in
-    let behind_first = keeps_behind text at within (omega (arith, e)) in
+    let behind_first = keeps_one text at within (omega (arith, e)) in
     let keeps : Keeps text at to = λ utf8 cuts. leads.keeps utf8 (behind_first utf8 cuts) in (
       dollar_is text at to leads
           ∙ (ap (λ (t : List ℕ). grammar.behind_dollar t (drop to text)) name
@@ -155,7 +155,7 @@ script_closed text at next within small c = (
     within = c.within;
     order = omega (arith, c.forward);
     inside = omega (arith, c.within);
-    keeps_from = keeps_behind text at within small;
+    keeps_from = keeps_one text at within small;
     keeps_to = λ utf8 here. c.before utf8;
     keeps_next = λ utf8 here. c.behind utf8;
   },

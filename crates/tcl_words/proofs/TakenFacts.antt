@@ -11,6 +11,7 @@ use Rattle.sdc_model.specs.ListText.{in_braces, is_taken, item_text, needs_backs
 use Rattle.tcl_words.specs.Steps.{between}
 use Rattle.tcl_words.specs.Taken.{IsPushed, UntakenTo, is_bare, untaken}
 use Rattle.tcl_words.proofs.PieceFacts.{front_between}
+use Rattle.tcl_words.proofs.TakenBack.{with_taken}
 use Rattle.tcl_words.proofs.RunFacts.{RunTo, drop_all, run_stops}
 
 -- ---- runs
@@ -47,15 +48,11 @@ untaken_to item from at run fails = taken_ends item from at run (λ less. is_tak
 
 -- ---- an item with its backslashes
 
-taken_first : (b : ℕ) (bs : List ℕ) → is_taken b ≡ true → with_backslashes (b ∷ bs) ≡ 92 ∷ (taken_as b ∷ with_backslashes bs)
-unfolding with_backslashes
-taken_first b bs p = rw p refl
-
 with_run : (item : List ℕ) → with_backslashes item ≡ front untaken item ++ with_backslashes (behind untaken item)
 unfolding with_backslashes front behind
 with_run [] = refl
 with_run (b ∷ bs) = elim (cases_Bool (is_taken b)) [
-  | inl p ↦ rw p (sym (taken_first b bs p))
+  | inl p ↦ rw p (sym (with_taken b bs p))
   | inr p ↦ rw p (ap (λ (t : List ℕ). b ∷ t) (with_run bs))
 ]
 
@@ -80,7 +77,7 @@ pushed_end before item after from end within run e written = record {
 }
 
 taken_here : (item : List ℕ) (end : ℕ) → end < length item → is_taken (get_or item end 0) ≡ true → with_backslashes (drop end item) ≡ 92 ∷ (taken_as (get_or item end 0) ∷ with_backslashes (drop (end + 1) item))
-taken_here item end within p = ap with_backslashes (drop_more item end 0 within) ∙ taken_first (get_or item end 0) (drop (end + 1) item) p
+taken_here item end within p = ap with_backslashes (drop_more item end 0 within) ∙ with_taken (get_or item end 0) (drop (end + 1) item) p
 
 pushed_byte : (before item middle after : List ℕ) (from end : ℕ) → IsUtf8 item → UntakenTo item from end → end < length item → middle ≡ before ++ between item from end → after ≡ middle ++ 92 ∷ (taken_as (get_or item end 0) ∷ []) → IsPushed before item from after (end + 1)
 pushed_byte before item middle after from end utf8 run within first second =

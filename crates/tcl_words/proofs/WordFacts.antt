@@ -21,6 +21,8 @@ use Rattle.tcl_words.specs.declared.spelled.Spelled.{Spelled}
 use Rattle.tcl_words.specs.Nests.{ClosesAt}
 use Rattle.tcl_words.specs.Reads.{PiecesFrom, PiecesTo, WordAt, WordFrom, starts}
 use Rattle.tcl_words.specs.Steps.{between}
+use Rattle.tcl_words.proofs.EscapeFacts.{backslash_goes}
+use Rattle.tcl_words.proofs.PieceFacts.{inner_is}
 
 -- ---- words by their first byte
 
@@ -124,11 +126,6 @@ braced_front text from to front c within e b =
     subst (λ o. IsWordOf o (drop from text) front) (sym (brace_here text from within e))
     (subst (λ o. IsBraced (drop (from + 1) text) o front) (sym c.is) b)
 
-inner_is : (text : List ℕ) (from to : ℕ) → from + 1 < to → to ≤ length text → before (drop (from + 1) text) (125 ∷ drop to text) ≡ between text (from + 1) (to - 1)
-inner_is text from to less within =
-    let n : length (drop (from + 1) text) - length (125 ∷ drop to text) ≡ to - 1 - (from + 1) = omega (arith, less, within, length-drop (from + 1) text, length-drop to text) in
-    ap (λ (k : ℕ). take k (drop (from + 1) text)) n
-
 pub inner_row : (text inner : List ℕ) (from to : ℕ) (spelled : Spelled) → ClosesAt text (from + 1) to (behind_brace (drop (from + 1) text)) → inner ≡ between text (from + 1) (to - 1) → (p : PiecesTo Braced inner 0 spelled) → ArePieces grammar.braced p.pieces (before (drop (from + 1) text) (125 ∷ drop to text)) (Ok [])
 inner_row text inner from to spelled c e p =
     let whole : ArePieces grammar.braced p.pieces inner (Ok []) = subst (λ (t : List ℕ). ArePieces grammar.braced p.pieces inner (Ok t)) (inner_end p.pieces inner (drop spelled.end inner) p.row) p.row in
@@ -178,19 +175,6 @@ substituted_goes b rest after e = elim (cases_Bool (b == 36)) [
   | inl p ↦ let f : grammar.behind_dollar (front is_name_byte rest) (behind is_name_byte rest) ≡ stops (Ok after) = rw p at e in dollar_goes (front is_name_byte rest) (behind is_name_byte rest) after f
   | inr p ↦ let f : grammar.behind_opening rest (behind_bracket rest) ≡ stops (Ok after) = rw p at e in script_goes rest (behind_bracket rest) after f
 ]
-
-escaped_goes : (b : ℕ) (rest after : List ℕ) → grammar.escaped grammar.bare b rest ≡ stops (Ok after) → ⊥
-escaped_goes b rest after e = elim (cases_Bool (b == 110)) [
-  | inl p ↦ let f : found (grammar.text (10 ∷ [])) rest ≡ stops (Ok after) = rw p at e in cc
-  | inr p ↦ elim (cases_Bool (b == 116)) [
-    | inl q ↦ let f : found (grammar.text (9 ∷ [])) rest ≡ stops (Ok after) = rw (p, q) at e in cc
-    | inr q ↦ let f : grammar.with_run grammar.bare (b ∷ []) rest ≡ stops (Ok after) = rw (p, q) at e in cc
-  ]
-]
-
-backslash_goes : (rest after : List ℕ) → continues rest ≡ false → grammar.behind_backslash grammar.bare rest ≡ stops (Ok after) → ⊥
-backslash_goes [] after h e = cc
-backslash_goes (b ∷ bs) after h e = let f : grammar.escaped grammar.bare b bs ≡ stops (Ok after) = rw h at e in escaped_goes b bs after f
 
 -- a byte of a word begins a piece
 bare_goes : (b : ℕ) (bs after : List ℕ) → starts (b ∷ bs) ≡ true → grammar.piece_at grammar.bare (b ∷ bs) ≡ stops (Ok after) → ⊥

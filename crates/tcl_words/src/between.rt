@@ -1,7 +1,7 @@
 //! What stands between words and between commands.
 
-ghost use Rattle.std.specs.Prelude.{◌≡◌, ◌<◌, ◌≤◌, ◌-◌, ◌+◌, ◌==◌, ◌||◌, true, false, length, drop, take, slice_index, min, if◌then◌else◌};
-ghost use Rattle.sdc_model.specs.Bytes.{is_end as end, is_space as space, last_line, line_after};
+ghost use Rattle.std.specs.Prelude.{◌≡◌, ◌<◌, ◌≤◌, ◌==◌, ◌||◌, true, false, length, drop, slice_index};
+ghost use Rattle.sdc_model.specs.Bytes.{is_end as end, is_space as space};
 ghost use Rattle.sdc_model.specs.Continued.{behind_continued, behind_gap, behind_newline, comment, from_command, parting, taken, continues as goes_on};
 ghost use Rattle.tcl_words.specs.Spans.{Keeps, LeadsTo, Moves, StepsTo};
 
@@ -150,30 +150,4 @@ pub fn command_start(bytes: &[u8], from: usize) -> usize
         at = next;
     }
     at
-}
-
-/// The line behind a byte on a line.
-fn line_behind(byte: u8, line: u32) -> u32
-    ensures { result ≡ (if byte == 10 then min (line + 1) last_line else line) }
-{
-    if byte == b'\n' {
-        return line.saturating_add(1);
-    }
-    line
-}
-
-/// The line at a place, counted from another one and its line.
-#[tactic(auto, using(crate::proofs::BetweenFacts::line_more))]
-pub fn line_at(bytes: &[u8], from: usize, to: usize, first: u32) -> u32
-    requires forward { from ≤ to }
-    requires within { to ≤ length bytes.now }
-    ensures { result ≡ line_after (take (to - from) (drop from bytes.now)) first }
-{
-    let mut at = from;
-    let mut line = first;
-    while at < to {
-        line = line_behind(bytes[at], line);
-        at += 1;
-    }
-    line
 }

@@ -1,8 +1,7 @@
 //! Commands of a script, split into words, and lists (Tcl).
 //!
-//! It gives the layer above `next_command` and `split` for commands, `list_items` and `list_text` for lists, `line_at` for
-//! lines, by the grammars of `sdc_model`, and the laws that each grammar has one outcome and that a list that was made
-//! reads back.
+//! It gives the layer above `next_command` and `split` for commands, `list_items` and `list_text` for lists, by the
+//! grammars of `sdc_model`, and the laws that each grammar has one outcome and that a list that was made reads back.
 //! It leaves to others what a word's variables and scripts stand for.
 #![tactic(auto)]
 
@@ -25,7 +24,6 @@ mod substitutions;
 #[cfg(test)]
 mod tests;
 
-pub use between::line_at;
 pub use laws::{first_is_one, split_is_one};
 pub use list_laws::{list_is_one, made_list_reads_back};
 pub use list_making::list_text;

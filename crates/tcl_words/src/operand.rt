@@ -6,15 +6,13 @@ ghost use Rattle.sdc_base.specs.Gives.{Meets};
 ghost use Rattle.sdc_model.specs.Enclosed.{behind_brace};
 ghost use Rattle.sdc_model.specs.ExpressionTokens.{script_token, variable_token, IsBracedToken, IsQuotedToken};
 ghost use Rattle.sdc_model.specs.Pieces.{substituted};
-ghost use Rattle.tcl_words.specs.declared.runs.Form.TheVariants as form;
 ghost use Rattle.tcl_words.specs.Operands.{as_malformed, IsFront, IsOnePiece, OperandAt};
-ghost use Rattle.tcl_words.specs.Reads.{PiecesFrom};
 
 use crate::enclosed::{Open, closing};
 use crate::gathered::Gathered;
 use crate::pieces::{Kind, Piece, Step, piece_at};
 use crate::runs::Form;
-use crate::spelled::{Spelled, pieces_at};
+use crate::spelled::{Spelled, inner_pieces, pieces_at};
 use sdc_base::Stop;
 use sdc_model::TclKind;
 use std::alloc::Global;
@@ -29,15 +27,8 @@ pub fn braced_operand(alloc: Global, text: &str, from: usize) -> Result<Spelled,
     let Some(end) = closing(alloc, text.as_bytes(), from + 1, Open::Brace)? else {
         return Err(Stop::Refused(TclKind::BadExpr));
     };
-    let Spelled { word, .. } = inner_word(alloc, &text[from + 1..end - 1])?;
+    let Spelled { word, .. } = inner_pieces(alloc, &text[from + 1..end - 1])?;
     Ok(Spelled { word, end })
-}
-
-/// The word of a text that stands in braces.
-fn inner_word(alloc: Global, inner: &str) -> Result<Spelled, Stop<TclKind>>
-    ensures { Meets result (PiecesFrom form.Braced inner.now 0) }
-{
-    pieces_at(alloc, inner, 0, Form::Braced)
 }
 
 /// The quoted text whose opening quote stands at a place, as an operand. Refused as `BadExpr` where it has no end, or

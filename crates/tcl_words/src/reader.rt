@@ -6,12 +6,13 @@ ghost use Rattle.sdc_base.specs.Gives.{Meets};
 ghost use Rattle.sdc_model.specs.Commands.{FirstFrom, Splits};
 ghost use Rattle.tcl_words.specs.Reads.{starts, WordsFrom};
 
-use crate::between::{command_start, gap_end, line_at};
+use crate::between::{command_start, gap_end};
 use crate::scan::command_ends;
 use crate::spelled::{Spelled, word_at};
 use sdc_base::{At, List, Stop};
 use sdc_model::{Command, Next, TclKind, Word};
 use std::alloc::Global;
+use text_lines::line_at;
 
 /// The words of a command, and where it ends in bytes.
 #[derive(Debug, Drop)]

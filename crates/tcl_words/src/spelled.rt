@@ -60,7 +60,7 @@ fn braced_at(alloc: Global, text: &str, from: usize) -> Result<Spelled, Stop<Tcl
 }
 
 /// The word of the pieces of a text that stands in braces.
-fn inner_pieces(alloc: Global, inner: &str) -> Result<Spelled, Stop<TclKind>>
+pub fn inner_pieces(alloc: Global, inner: &str) -> Result<Spelled, Stop<TclKind>>
     ensures { Meets result (PiecesFrom form.Braced inner.now 0) }
 {
     pieces_at(alloc, inner, 0, Form::Braced)

@@ -89,49 +89,51 @@ fn built_in_commands_with_their_values(rt: HostRuntime) -> Result<(), Fail> {
     Ok(())
 }
 
+static FIRST_FAULTS: [(&str, &str); 28] = [
+    ("set a $x\nset b {", "1 Tcl(UnknownVariable)"),
+    ("set", "1 Tcl(WrongArgs)"),
+    ("expr x + 1", "1 Tcl(BadExpr)"),
+    ("a\nset a {1", "1:a() 2 Tcl(Unclosed)"),
+    ("a\n\nset a {1}2", "1:a() 3 Tcl(ExtraAfterBrace)"),
+    ("set a $b(1)", "1 Tcl(BadWord)"),
+    ("a [b; c {x}y]", "1:b() 1 Tcl(ExtraAfterBrace)"),
+    ("a [b {x}y]", "1 Tcl(ExtraAfterBrace)"),
+    (
+        "\nforeach i {1 2} {\n\n a $i\n refuse\n}",
+        "2:a(1) 2 Sdc(OutOfProfile)",
+    ),
+    ("a [refuse] [b]", "1 Sdc(OutOfProfile)"),
+    // a failed `set` leaves the variable as it was
+    ("set v 1; set v [refuse]", "1 Sdc(OutOfProfile)"),
+    // words are counted before conditions
+    ("if $nope {a} else", "1 Tcl(UnknownVariable)"),
+    ("if {[a]} b else", "1 Tcl(WrongArgs)"),
+    ("if 1 then", "1 Tcl(WrongArgs)"),
+    ("if abc {a}", "1 Tcl(BadExpr)"),
+    ("if {\"1e20\"} {a}", "1 Tcl(Number(NumberRange))"),
+    ("foreach i {a", "1 Tcl(Unclosed)"),
+    ("foreach i \"{a\" {}", "1 Tcl(Unclosed)"),
+    ("foreach {} {}", "1 Tcl(WrongArgs)"),
+    ("lindex \"{a\" x", "1 Tcl(Unclosed)"),
+    ("lindex {a} x", "1 Tcl(BadExpr)"),
+    ("lindex {a} 1.0", "1 Tcl(BadExpr)"),
+    (
+        "lindex {a} 99999999999999999999",
+        "1 Tcl(Number(NumberRange))",
+    ),
+    ("llength", "1 Tcl(WrongArgs)"),
+    ("expr", "1 Tcl(BadExpr)"),
+    ("expr 1 / 0", "1 Tcl(Number(DivideByZero))"),
+    ("expr {\"a\" + [b]}", "1:b() 1 Tcl(BadExpr)"),
+    ("expr {\"a\" && [b]}", "1 Tcl(BadExpr)"),
+];
+
 /// Scripts with their first fault in order of execution; the calls before it stand.
 #[test]
 fn first_faults(rt: HostRuntime) -> Result<(), Fail> {
-    for (script, wanted) in [
-        ("set a $x\nset b {", "1 Tcl(UnknownVariable)"),
-        ("set", "1 Tcl(WrongArgs)"),
-        ("expr x + 1", "1 Tcl(BadExpr)"),
-        ("a\nset a {1", "1:a() 2 Tcl(Unclosed)"),
-        ("a\n\nset a {1}2", "1:a() 3 Tcl(ExtraAfterBrace)"),
-        ("set a $b(1)", "1 Tcl(BadWord)"),
-        ("a [b; c {x}y]", "1:b() 1 Tcl(ExtraAfterBrace)"),
-        ("a [b {x}y]", "1 Tcl(ExtraAfterBrace)"),
-        (
-            "\nforeach i {1 2} {\n\n a $i\n refuse\n}",
-            "2:a(1) 2 Sdc(OutOfProfile)",
-        ),
-        ("a [refuse] [b]", "1 Sdc(OutOfProfile)"),
-        // a failed `set` leaves the variable as it was
-        ("set v 1; set v [refuse]", "1 Sdc(OutOfProfile)"),
-        // words are counted before conditions
-        ("if $nope {a} else", "1 Tcl(UnknownVariable)"),
-        ("if {[a]} b else", "1 Tcl(WrongArgs)"),
-        ("if 1 then", "1 Tcl(WrongArgs)"),
-        ("if abc {a}", "1 Tcl(BadExpr)"),
-        ("if {\"1e20\"} {a}", "1 Tcl(Number(NumberRange))"),
-        ("foreach i {a", "1 Tcl(Unclosed)"),
-        ("foreach i \"{a\" {}", "1 Tcl(Unclosed)"),
-        ("foreach {} {}", "1 Tcl(WrongArgs)"),
-        ("lindex \"{a\" x", "1 Tcl(Unclosed)"),
-        ("lindex {a} x", "1 Tcl(BadExpr)"),
-        ("lindex {a} 1.0", "1 Tcl(BadExpr)"),
-        (
-            "lindex {a} 99999999999999999999",
-            "1 Tcl(Number(NumberRange))",
-        ),
-        ("llength", "1 Tcl(WrongArgs)"),
-        ("expr", "1 Tcl(BadExpr)"),
-        ("expr 1 / 0", "1 Tcl(Number(DivideByZero))"),
-        ("expr {\"a\" + [b]}", "1:b() 1 Tcl(BadExpr)"),
-        ("expr {\"a\" && [b]}", "1 Tcl(BadExpr)"),
-    ] {
+    for (script, wanted) in FIRST_FAULTS.iter() {
         let shown = show_run(rt.alloc(), script)?;
-        assert_eq!(rt; (script, shown.as_str()), (script, wanted));
+        assert_eq!(rt; (*script, shown.as_str()), (*script, *wanted));
     }
     Ok(())
 }

@@ -1,6 +1,6 @@
 //! The steps of texts, and texts that are no expressions.
 
-use crate::parse_expression;
+use crate::parsing::parse_expression;
 use crate::tests::show_text;
 use sdc_base::NoMemory;
 use std::alloc::Global;
@@ -103,51 +103,53 @@ fn operands_and_operators_that_do_not_fit(rt: HostRuntime) -> Result<(), Fail> {
     Ok(())
 }
 
+static WITHOUT_A_TOKEN: [&str; 41] = [
+    "1e",
+    "1e+",
+    ".",
+    "1e31",
+    "1e-31",
+    "1234567890123456789012345678901",
+    "$",
+    "$ + 1",
+    "$(a)",
+    "$a(1)",
+    "${a",
+    "[a",
+    "[a {]}",
+    "\"a",
+    "\"a\\\"",
+    "{a",
+    "{a\\}",
+    "\"$a(1)\"",
+    "\"[a\"",
+    "\"${a\"",
+    "x + 1",
+    "true",
+    "a",
+    "e",
+    "n",
+    "1 e 2",
+    "1 & 2",
+    "1 | 2",
+    "1 = 2",
+    "1 === 2",
+    "~1",
+    "1 ^ 2",
+    "1 ? 2 : 3",
+    "1;2",
+    "1 # 2",
+    "1 \\ 2",
+    "\\",
+    "1,2",
+    "\u{a0}1",
+    "\u{ff11}",
+    "1 || x",
+];
+
 #[test]
 fn texts_without_a_token_somewhere(rt: HostRuntime) -> Result<(), Fail> {
-    for text in [
-        "1e",
-        "1e+",
-        ".",
-        "1e31",
-        "1e-31",
-        "1234567890123456789012345678901",
-        "$",
-        "$ + 1",
-        "$(a)",
-        "$a(1)",
-        "${a",
-        "[a",
-        "[a {]}",
-        "\"a",
-        "\"a\\\"",
-        "{a",
-        "{a\\}",
-        "\"$a(1)\"",
-        "\"[a\"",
-        "\"${a\"",
-        "x + 1",
-        "true",
-        "a",
-        "e",
-        "n",
-        "1 e 2",
-        "1 & 2",
-        "1 | 2",
-        "1 = 2",
-        "1 === 2",
-        "~1",
-        "1 ^ 2",
-        "1 ? 2 : 3",
-        "1;2",
-        "1 # 2",
-        "1 \\ 2",
-        "\\",
-        "1,2",
-        "\u{a0}1",
-        "\u{ff11}",
-        "1 || x",
-    ] {
+    for text in WITHOUT_A_TOKEN.iter() {
         let shown = show_text(rt.alloc(), text)?;
         assert_eq!(rt; (text, shown.as_str()), (text, "BadExpr"));
     }

@@ -1,7 +1,9 @@
 //! The values of expressions without variables and scripts. Those of the tables `as_in_tclsh` are what
 //! `tclsh` 8.6 gives.
 
-use crate::{changed, computed, decided, joined, parse_expression, text_of};
+use crate::operations::{changed, decided, joined};
+use crate::parsing::parse_expression;
+use crate::values::{computed, text_of};
 use sdc_base::{Duplicate, NoMemory, Stop};
 use sdc_model::{BinaryOperator, Expression, ExpressionStep, Part, Scalar, TclKind, Word};
 use std::alloc::Global;
@@ -118,51 +120,50 @@ fn unlike(alloc: Global, rows: &[(&str, &str)]) -> Result<String, NoMemory> {
     Ok(all)
 }
 
+static ARITHMETIC: [(&str, &str); 38] = [
+    ("1 + 2 * 3", "7"),
+    ("(1 + 2) * 3", "9"),
+    ("2 - 1 - 1", "0"),
+    ("100 / 5 / 2", "10"),
+    ("7 % 4 % 2", "1"),
+    ("-7 / 2", "-4"),
+    ("-7 % 2", "1"),
+    ("7 / -2", "-4"),
+    ("7 % -2", "-1"),
+    ("-7 / -2", "3"),
+    ("- 7 + 2", "-5"),
+    ("1 + - 2", "-1"),
+    ("5--3", "8"),
+    ("5 - - 3", "8"),
+    ("- - 5", "5"),
+    ("-2 * -3", "6"),
+    ("+4 - +1", "3"),
+    ("2 * 3 % 4", "2"),
+    ("1 - 2 + 3 - 4", "-2"),
+    ("7.0 / 2", "3.5"),
+    ("7 / 2.0", "3.5"),
+    ("1.5 + 1.5", "3.0"),
+    ("0.5 * 4", "2.0"),
+    ("2.5 - 1", "1.5"),
+    ("1e3 + 0", "1000.0"),
+    (".5 + .5", "1.0"),
+    ("5. - 1", "4.0"),
+    ("1.25e1 * 2", "25.0"),
+    ("10 % 3 * 2 + 1", "3"),
+    ("((((1))))", "1"),
+    ("(1)+(2)", "3"),
+    ("3-(2-1)", "2"),
+    ("1\t+\t2", "3"),
+    ("2+3*4-5", "9"),
+    ("-\"3\" + 1", "-2"),
+    ("\"2\" * \"3\"", "6"),
+    ("2*(3+4)*5", "70"),
+    ("-(2+3)", "-5"),
+];
+
 #[test]
 fn arithmetic_as_in_tclsh(rt: HostRuntime) -> Result<(), Fail> {
-    let unlike = unlike(
-        rt.alloc(),
-        &[
-            ("1 + 2 * 3", "7"),
-            ("(1 + 2) * 3", "9"),
-            ("2 - 1 - 1", "0"),
-            ("100 / 5 / 2", "10"),
-            ("7 % 4 % 2", "1"),
-            ("-7 / 2", "-4"),
-            ("-7 % 2", "1"),
-            ("7 / -2", "-4"),
-            ("7 % -2", "-1"),
-            ("-7 / -2", "3"),
-            ("- 7 + 2", "-5"),
-            ("1 + - 2", "-1"),
-            ("5--3", "8"),
-            ("5 - - 3", "8"),
-            ("- - 5", "5"),
-            ("-2 * -3", "6"),
-            ("+4 - +1", "3"),
-            ("2 * 3 % 4", "2"),
-            ("1 - 2 + 3 - 4", "-2"),
-            ("7.0 / 2", "3.5"),
-            ("7 / 2.0", "3.5"),
-            ("1.5 + 1.5", "3.0"),
-            ("0.5 * 4", "2.0"),
-            ("2.5 - 1", "1.5"),
-            ("1e3 + 0", "1000.0"),
-            (".5 + .5", "1.0"),
-            ("5. - 1", "4.0"),
-            ("1.25e1 * 2", "25.0"),
-            ("10 % 3 * 2 + 1", "3"),
-            ("((((1))))", "1"),
-            ("(1)+(2)", "3"),
-            ("3-(2-1)", "2"),
-            ("1\t+\t2", "3"),
-            ("2+3*4-5", "9"),
-            ("-\"3\" + 1", "-2"),
-            ("\"2\" * \"3\"", "6"),
-            ("2*(3+4)*5", "70"),
-            ("-(2+3)", "-5"),
-        ],
-    )?;
+    let unlike = unlike(rt.alloc(), &ARITHMETIC)?;
     assert_eq!(rt; unlike.as_str(), "");
     Ok(())
 }
@@ -228,46 +229,45 @@ fn logic_as_in_tclsh(rt: HostRuntime) -> Result<(), Fail> {
     Ok(())
 }
 
+static OF_THIS_TOOL: [(&str, &str); 33] = [
+    ("2.0 / 3", "0.666666667"),
+    ("10 * 0.3", "3.0"),
+    ("1.50", "1.5"),
+    ("\"1.50\"", "1.50"),
+    ("+\"1.50\"", "1.5"),
+    ("1.0 eq 1.00", "1"),
+    ("\"1.0\" eq \"1.00\"", "0"),
+    ("-0.0", "0.0"),
+    ("999999999999999 + 1", "Number(NumberRange)"),
+    ("1 / 0", "Number(DivideByZero)"),
+    ("1 % 0", "Number(DivideByZero)"),
+    ("1.0 % 1", "BadExpr"),
+    ("1.5 % 0", "BadExpr"),
+    ("1e20", "Number(NumberRange)"),
+    ("0 && 1e20", "0"),
+    ("1 && 1e20", "Number(NumberRange)"),
+    ("\"1e20\" == \"1e20\"", "Number(NumberRange)"),
+    ("\"1e20\" == \"a\"", "0"),
+    ("\"1e20\" eq \"1e20\"", "1"),
+    ("\"a\" + 1e20", "Number(NumberRange)"),
+    ("\"a\" + \"1e20\"", "BadExpr"),
+    ("\"1e20\" + \"a\"", "Number(NumberRange)"),
+    ("\"a\" < \"b\"", "BadExpr"),
+    ("!\"a\"", "BadExpr"),
+    ("\"a\" && 1", "BadExpr"),
+    ("\"a\" && 1e20", "BadExpr"),
+    ("1 && \"a\"", "BadExpr"),
+    ("0 && \"a\"", "0"),
+    ("1 || \"a\"", "1"),
+    ("0 || \"a\"", "BadExpr"),
+    ("0 && 1 || \"a\" && 0 || 1", "BadExpr"),
+    ("1 || \"a\" || \"b\"", "1"),
+    ("0 && (1 || \"a\") && \"b\"", "0"),
+];
+
 #[test]
 fn values_of_this_tool(rt: HostRuntime) -> Result<(), Fail> {
-    let unlike = unlike(
-        rt.alloc(),
-        &[
-            ("2.0 / 3", "0.666666667"),
-            ("10 * 0.3", "3.0"),
-            ("1.50", "1.5"),
-            ("\"1.50\"", "1.50"),
-            ("+\"1.50\"", "1.5"),
-            ("1.0 eq 1.00", "1"),
-            ("\"1.0\" eq \"1.00\"", "0"),
-            ("-0.0", "0.0"),
-            ("999999999999999 + 1", "Number(NumberRange)"),
-            ("1 / 0", "Number(DivideByZero)"),
-            ("1 % 0", "Number(DivideByZero)"),
-            ("1.0 % 1", "BadExpr"),
-            ("1.5 % 0", "BadExpr"),
-            ("1e20", "Number(NumberRange)"),
-            ("0 && 1e20", "0"),
-            ("1 && 1e20", "Number(NumberRange)"),
-            ("\"1e20\" == \"1e20\"", "Number(NumberRange)"),
-            ("\"1e20\" == \"a\"", "0"),
-            ("\"1e20\" eq \"1e20\"", "1"),
-            ("\"a\" + 1e20", "Number(NumberRange)"),
-            ("\"a\" + \"1e20\"", "BadExpr"),
-            ("\"1e20\" + \"a\"", "Number(NumberRange)"),
-            ("\"a\" < \"b\"", "BadExpr"),
-            ("!\"a\"", "BadExpr"),
-            ("\"a\" && 1", "BadExpr"),
-            ("\"a\" && 1e20", "BadExpr"),
-            ("1 && \"a\"", "BadExpr"),
-            ("0 && \"a\"", "0"),
-            ("1 || \"a\"", "1"),
-            ("0 || \"a\"", "BadExpr"),
-            ("0 && 1 || \"a\" && 0 || 1", "BadExpr"),
-            ("1 || \"a\" || \"b\"", "1"),
-            ("0 && (1 || \"a\") && \"b\"", "0"),
-        ],
-    )?;
+    let unlike = unlike(rt.alloc(), &OF_THIS_TOOL)?;
     assert_eq!(rt; unlike.as_str(), "");
     Ok(())
 }

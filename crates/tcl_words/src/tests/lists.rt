@@ -67,49 +67,48 @@ fn unlike_made(alloc: Global, rows: &[(&[&str], &str)]) -> Result<String, NoMemo
     Ok(all)
 }
 
+static LISTS: [(&str, &str); 19] = [
+    ("", ""),
+    (" \t\r\n", ""),
+    ("a {b c} d", "'a''b c''d'"),
+    (" a\tb\rc\nd\r\n", "'a''b''c''d'"),
+    // what stands for itself
+    (
+        "a;b c; #d [e $f $g(1) ${h [i]",
+        "'a;b''c;''#d''[e''$f''$g(1)''${h''[i]'",
+    ),
+    ("\"$a [b\" \"[c \"", "'$a [b''[c '"),
+    ("a{b a}b a\"b ]", "'a{b''a}b''a\"b'']'"),
+    // braces and quotes
+    (
+        "{} \"\" {a {b} c} {\\}} {a;$b[c\"}",
+        "'''''a {b} c''\\}''a;$b[c\"'",
+    ),
+    ("\"a b\" \"\\\"\" \"a{\" \"a\nb\"", "'a b''\"''a{''a\nb'"),
+    ("{a}\n{b}\t\"c\"\r{d}", "'a''b''c''d'"),
+    // backslashes
+    (
+        "a\\nb \\t \\x41 \\a \\\\ \\{ a\\ b \\;",
+        "'a\nb''\t''x41''a''\\''{''a b'';'",
+    ),
+    ("{a\\nb} {\\\\} a\\", "'a\\nb''\\\\''a\\'"),
+    ("\\", "'\\'"),
+    // continued lines part items, and are one blank inside braces and quotes
+    ("a\\\nb", "'a''b'"),
+    ("a\\\r\n\tb \\\n", "'a''b'"),
+    ("{a\\\nb} {a\\\n\tb} {a\\\r\n \r\tb}", "'a b''a b''a b'"),
+    ("\"a\\\n  b\" {a}\\\n\"b\"\\\r\n{c}", "'a b''a''b''c'"),
+    ("{a\\\\\nb}", "'a\\\\\nb'"),
+    // no other byte parts items
+    (
+        "a\u{a0}b\u{b}c\u{c}d é {é ü} \\é",
+        "'a\u{a0}b\u{b}c\u{c}d''é''é ü''é'",
+    ),
+];
+
 #[test]
 fn items_of_lists(rt: HostRuntime) -> Result<(), Fail> {
-    let unlike = unlike(
-        rt.alloc(),
-        &[
-            ("", ""),
-            (" \t\r\n", ""),
-            ("a {b c} d", "'a''b c''d'"),
-            (" a\tb\rc\nd\r\n", "'a''b''c''d'"),
-            // what stands for itself
-            (
-                "a;b c; #d [e $f $g(1) ${h [i]",
-                "'a;b''c;''#d''[e''$f''$g(1)''${h''[i]'",
-            ),
-            ("\"$a [b\" \"[c \"", "'$a [b''[c '"),
-            ("a{b a}b a\"b ]", "'a{b''a}b''a\"b'']'"),
-            // braces and quotes
-            (
-                "{} \"\" {a {b} c} {\\}} {a;$b[c\"}",
-                "'''''a {b} c''\\}''a;$b[c\"'",
-            ),
-            ("\"a b\" \"\\\"\" \"a{\" \"a\nb\"", "'a b''\"''a{''a\nb'"),
-            ("{a}\n{b}\t\"c\"\r{d}", "'a''b''c''d'"),
-            // backslashes
-            (
-                "a\\nb \\t \\x41 \\a \\\\ \\{ a\\ b \\;",
-                "'a\nb''\t''x41''a''\\''{''a b'';'",
-            ),
-            ("{a\\nb} {\\\\} a\\", "'a\\nb''\\\\''a\\'"),
-            ("\\", "'\\'"),
-            // continued lines part items, and are one blank inside braces and quotes
-            ("a\\\nb", "'a''b'"),
-            ("a\\\r\n\tb \\\n", "'a''b'"),
-            ("{a\\\nb} {a\\\n\tb} {a\\\r\n \r\tb}", "'a b''a b''a b'"),
-            ("\"a\\\n  b\" {a}\\\n\"b\"\\\r\n{c}", "'a b''a''b''c'"),
-            ("{a\\\\\nb}", "'a\\\\\nb'"),
-            // no other byte parts items
-            (
-                "a\u{a0}b\u{b}c\u{c}d é {é ü} \\é",
-                "'a\u{a0}b\u{b}c\u{c}d''é''é ü''é'",
-            ),
-        ],
-    )?;
+    let unlike = unlike(rt.alloc(), &LISTS)?;
     assert_eq!(rt; unlike.as_str(), "");
     Ok(())
 }
