@@ -1,10 +1,9 @@
 -- The names of a cell: found by their places, and known to be no inputs.
-use Rattle.std.proofs.Common.{◌≡◌, ◌∙◌, ◌+◌, ◌<◌, ◌≤◌, ◌||◌, ℕ, Bool, true, false, cond, List, [], ◌∷◌, drop, get_or, length, Some, None, refl, sym, ap, subst, arith, nat_le, nat_lt, not}
+use Rattle.std.proofs.Common.{◌≡◌, ◌∙◌, ◌+◌, ◌<◌, ◌≤◌, ◌||◌, ℕ, Bool, true, false, cond, List, [], ◌∷◌, drop, get_or, length, Some, None, refl, sym, ap, subst, arith, nat_le, nat_lt, not, String}
 use Rattle.std.proofs.lemmas.Bool.Decides.{nat_tests}
-use Rattle.std.proofs.lemmas.Map.Text.{is_eq-slice_cmp}
-use Rattle.std.specs.BTreeSet.{BTreeSet, Updates, contains}
-use Rattle.std.specs.Cmp.Lexicographic.{slice_cmp}
-use Rattle.std.specs.Ordering.{nat_cmp}
+use Rattle.std.proofs.lemmas.Map.Text.{hash_set_updates_text}
+use Rattle.std.specs.Prelude.{string_bytes, string_eq}
+use Rattle.indexmap.specs.IndexSet.{IndexSet, Updates, contains_text}
 use Rattle.sdc_model.specs.FunctionMeaning.{inputs_in, is_other}
 use Rattle.sdc_model.specs.FunctionText.{place_in}
 use Rattle.sdc_model.specs.Words.{same_text}
@@ -13,7 +12,7 @@ use Rattle.bool_lanes.specs.NamedNumbers.{HasPlaces, number_at}
 use Rattle.bool_lanes.specs.declared.numbers.Numbers.{Numbers}
 use Rattle.bool_lanes.proofs.NumberFacts.{place_from-place_if}
 
-pub known : (names : List (List ℕ)) (inputs : ℕ) (places : Numbers) (others : BTreeSet (List ℕ)) → inputs ≡ inputs_in names
+pub known : {A S : Type 0} (names : List (List ℕ)) (inputs : ℕ) (places : Numbers) (others : IndexSet (String A) S) → inputs ≡ inputs_in names
     → inputs ≤ length names → HasPlaces places names → HasNames others (drop (inputs + 1) names) → AreKnown names inputs places others
 known names inputs places others count within placed apart = record { count = count; within = within; placed = placed; apart = apart }
 
@@ -63,8 +62,8 @@ other_behind names inputs pin count behind =
     let e : nat_le (inputs_in names) pin ≡ true = grind (arith, nat_tests) in
     sym (ap (λ t. t || is_among (drop (inputs_in names + 1) names) (get_or names pin [])) e)
 
-pub other_among : (names : List (List ℕ)) (inputs pin : ℕ) (others : BTreeSet (List ℕ)) → inputs ≡ inputs_in names → pin < inputs
-    → HasNames others (drop (inputs + 1) names) → contains (slice_cmp nat_cmp) others (get_or names pin []) ≡ is_other names pin
+pub other_among : {A S : Type 0} (names : List (List ℕ)) (inputs pin : ℕ) (others : IndexSet (String A) S) → inputs ≡ inputs_in names → pin < inputs
+    → HasNames others (drop (inputs + 1) names) → contains_text others (get_or names pin []) ≡ is_other names pin
 other_among names inputs pin others count before apart =
     let h : pin < inputs_in names = subst (λ n. pin < n) count before in
     let e : nat_le (inputs_in names) pin ≡ false = grind (arith, nat_tests) in
@@ -75,17 +74,17 @@ other_among names inputs pin others count before apart =
 -- ---- names one after the other
 
 -- the set has the names so far: with the others they are all
-abbrev pub SetSoFar : BTreeSet (List ℕ) → List (List ℕ) → List (List ℕ) → Type 0
-SetSoFar set rest names = (name : List ℕ) → (contains (slice_cmp nat_cmp) set name || is_among rest name) ≡ is_among names name
+abbrev pub SetSoFar : {A S : Type 0} → IndexSet (String A) S → List (List ℕ) → List (List ℕ) → Type 0
+SetSoFar set rest names = (name : List ℕ) → (contains_text set name || is_among rest name) ≡ is_among names name
 
-pub set_none : (set : BTreeSet (List ℕ)) (names : List (List ℕ)) → set.keys ≡ [] → SetSoFar set names names
+pub set_none : {A S : Type 0} (set : IndexSet (String A) S) (names : List (List ℕ)) → set.keys ≡ [] → SetSoFar set names names
 set_none set names empty name = rw empty refl
 
-pub added : (old new : BTreeSet (List ℕ)) (own : List ℕ) → Updates (slice_cmp nat_cmp) old new own true → AddsName old new own
-added old new own updates name =
-    updates.0 name
-    ∙ (ap (λ t. cond t true (contains (slice_cmp nat_cmp) old name)) (is_eq-slice_cmp own name)
-    ∙ or_is (same_text own name) (contains (slice_cmp nat_cmp) old name)) where
+pub added : {A S : Type 0} (old new : IndexSet (String A) S) (key : String A) (own : List ℕ) → Updates string_eq old new key true → string_bytes key ≡ own → AddsName old new own
+added old new key own updates named name =
+    hash_set_updates_text (string_bytes key) old new true updates name
+    ∙ (or_is (same_text (string_bytes key) name) (contains_text old name)
+    ∙ ap (λ bytes. same_text bytes name || contains_text old name) named) where
       or_is : (t old : Bool) → cond t true old ≡ (t || old)
       or_is true old = refl
       or_is false old = refl
@@ -95,16 +94,16 @@ or_behind true true behind = refl
 or_behind true false behind = refl
 or_behind false old behind = refl
 
-pub set_more : (old new : BTreeSet (List ℕ)) (own : List ℕ) (rest names : List (List ℕ)) → SetSoFar old (own ∷ rest) names
+pub set_more : {A S : Type 0} (old new : IndexSet (String A) S) (own : List ℕ) (rest names : List (List ℕ)) → SetSoFar old (own ∷ rest) names
     → AddsName old new own → SetSoFar new rest names
 set_more old new own rest names so_far adds name =
     ap (λ t. t || is_among rest name) (adds name)
-    ∙ (or_behind (same_text own name) (contains (slice_cmp nat_cmp) old name) (is_among rest name)
+    ∙ (or_behind (same_text own name) (contains_text old name) (is_among rest name)
     ∙ so_far name)
 
 or_false : (t : Bool) → (t || false) ≡ t
 or_false true = refl
 or_false false = refl
 
-pub set_all : (set : BTreeSet (List ℕ)) (names : List (List ℕ)) → SetSoFar set [] names → HasNames set names
-set_all set names so_far name = sym (or_false (contains (slice_cmp nat_cmp) set name)) ∙ so_far name
+pub set_all : {A S : Type 0} (set : IndexSet (String A) S) (names : List (List ℕ)) → SetSoFar set [] names → HasNames set names
+set_all set names so_far name = sym (or_false (contains_text set name)) ∙ so_far name

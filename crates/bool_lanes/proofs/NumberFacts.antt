@@ -1,14 +1,13 @@
 -- Numbers that are found by names: of places of names the least one is the first.
-use Rattle.std.proofs.Common.{◌≡◌, ◌∙◌, ◌+◌, ◌<◌, ℕ, Bool, true, false, cond, List, [], ◌∷◌, length, min, Option, Some, None, refl, sym, ap, arith, nat_lt, not}
+use Rattle.std.proofs.Common.{◌≡◌, ◌∙◌, ◌+◌, ◌<◌, ℕ, Bool, true, false, cond, List, [], ◌∷◌, length, min, Option, Some, None, refl, sym, ap, arith, nat_lt, not, subst, Vec}
 use Rattle.std.proofs.lemmas.Bool.Decides.{nat_tests}
-use Rattle.std.proofs.lemmas.Map.Text.{is_eq-slice_cmp}
 use Rattle.std.proofs.lemmas.Slice.Eq.{bytes_eq-Decides}
-use Rattle.std.specs.BTreeMap.{Updates}
-use Rattle.std.specs.Cmp.Lexicographic.{slice_cmp}
-use Rattle.std.specs.Ordering.{nat_cmp}
+use Rattle.std.specs.Cmp.Lexicographic.{nat_list_eq_equiv}
+use Rattle.std.specs.Map.{KeepsOthers, lookup}
+use Rattle.indexmap.specs.IndexMap.{Updates}
 use Rattle.sdc_model.specs.FunctionText.{place_in}
 use Rattle.sdc_model.specs.Words.{same_text}
-use Rattle.bool_lanes.specs.NamedNumbers.{HasPlaces, least, number_at, number_if, place_from, place_if}
+use Rattle.bool_lanes.specs.NamedNumbers.{HasPlaces, is_name, is_same_key, least, number_at, number_if, place_from, place_if}
 use Rattle.bool_lanes.specs.declared.numbers.Numbers.{Numbers}
 
 -- ---- the first place
@@ -62,19 +61,34 @@ place_from-place_if (own ∷ names) name =
 
 -- ---- a name more
 
+-- what is found of other names stays
+others : {A X : Type 0} (old new : List (Vec ℕ A × X)) (own name : List ℕ) → KeepsOthers is_same_key (is_name own) old new → same_text own name ≡ false
+    → lookup (is_name name) new ≡ lookup (is_name name) old
+unfolding KeepsOthers
+others old new own name keeps apart =
+    keeps (is_name name) (λ x y. nat_list_eq_equiv.congr name x.items y.items)
+    (λ key same. nat_list_eq_equiv.symm name key.items ∙ (sym (nat_list_eq_equiv.congr own key.items name same) ∙ apart))
+
+-- what is found of names once one has a number
+found : {A X : Type 0} (old new : List (Vec ℕ A × X)) (own : List ℕ) (kept : Option X) → lookup (is_name own) new ≡ kept
+    → KeepsOthers is_same_key (is_name own) old new → (name : List ℕ) (t : Bool) → same_text own name ≡ t
+    → lookup (is_name name) new ≡ cond t kept (lookup (is_name name) old)
+found old new own kept there keeps name true same = subst (λ n. lookup (is_name n) new ≡ kept) ((bytes_eq-Decides own name).0 same) there
+found old new own kept there keeps name false apart = others old new own name keeps apart
+
 added_step : (key other : List ℕ) (number kept : ℕ) (old : List ℕ → Option ℕ) → Some kept ≡ least (Some number) (old key)
     → (t : Bool) → same_text key other ≡ t → cond t (Some kept) (old other) ≡ least (cond t (Some number) None) (old other)
 added_step key other number kept old is true same = is ∙ ap (λ k. least (Some number) (old k)) ((bytes_eq-Decides key other).0 same)
 added_step key other number kept old is false same = refl
 
 -- one more thing of a name, its least number known
-pub added : (old new : Numbers) (key : List ℕ) (number kept : ℕ)
-    → Updates (slice_cmp nat_cmp) old.least new.least key (Some kept) → Some kept ≡ least (Some number) (number_at old key)
-    → (other : List ℕ) → number_at new other ≡ least (number_if key number other) (number_at old other)
-added old new key number kept updates is other =
-    updates.0 other
-    ∙ (ap (λ t. cond t (Some kept) (number_at old other)) (is_eq-slice_cmp key other)
-    ∙ added_step key other number kept (number_at old) is (same_text key other) refl)
+pub added : (old new : Numbers) (key : Vec ℕ _) (own : List ℕ) (number kept : ℕ) → key.items ≡ own
+    → Updates is_same_key old.least new.least key (Some kept) → Some kept ≡ least (Some number) (number_at old own)
+    → (other : List ℕ) → number_at new other ≡ least (number_if own number other) (number_at old other)
+added old new key own number kept named updates is other =
+    found old.least.entries new.least.entries own (Some kept) (subst (λ n. lookup (is_name n) new.least.entries ≡ Some kept) named updates.1)
+    (subst (λ n. KeepsOthers is_same_key (is_name n) old.least.entries new.least.entries) named updates.3) other (same_text own other) refl
+    ∙ added_step own other number kept (number_at old) is (same_text own other) refl
 
 -- ---- things one after the other
 

@@ -1,9 +1,7 @@
 -- The names of a cell with what finds them. This project's own.
-use Rattle.std.specs.Prelude.{◌≡◌, ◌≤◌, ◌+◌, ◌||◌, ℕ, Bool, List, drop, length}
-use Rattle.std.specs.BTreeSet.{BTreeSet, contains}
-use Rattle.std.specs.Cmp.Lexicographic.{slice_cmp}
+use Rattle.std.specs.Prelude.{◌≡◌, ◌≤◌, ◌+◌, ◌||◌, ℕ, Bool, List, String, drop, length}
 use Rattle.std.specs.List.{list_any}
-use Rattle.std.specs.Ordering.{nat_cmp}
+use Rattle.indexmap.specs.IndexSet.{IndexSet, contains_text}
 use Rattle.sdc_model.specs.FunctionMeaning.{inputs_in}
 use Rattle.sdc_model.specs.Words.{same_text}
 use Rattle.bool_lanes.specs.NamedNumbers.{HasPlaces}
@@ -14,15 +12,15 @@ abbrev pub is_among : List (List ℕ) → List ℕ → Bool
 is_among names name = list_any (λ other. same_text other name) names
 
 -- the set has names
-abbrev pub HasNames : BTreeSet (List ℕ) → List (List ℕ) → Type 0
-HasNames set names = (name : List ℕ) → contains (slice_cmp nat_cmp) set name ≡ is_among names name
+abbrev pub HasNames : {A S : Type 0} → IndexSet (String A) S → List (List ℕ) → Type 0
+HasNames set names = (name : List ℕ) → contains_text set name ≡ is_among names name
 
 -- the set has what it had, and a name more
-abbrev pub AddsName : BTreeSet (List ℕ) → BTreeSet (List ℕ) → List ℕ → Type 0
-AddsName old new own = (name : List ℕ) → contains (slice_cmp nat_cmp) new name ≡ (same_text own name || contains (slice_cmp nat_cmp) old name)
+abbrev pub AddsName : {A S : Type 0} → IndexSet (String A) S → IndexSet (String A) S → List ℕ → Type 0
+AddsName old new own = (name : List ℕ) → contains_text new name ≡ (same_text own name || contains_text old name)
 
 -- the number of inputs among names, the places of names, and the names behind the inputs
-pub record AreKnown (names : List (List ℕ)) (inputs : ℕ) (places : Numbers) (others : BTreeSet (List ℕ)) : Type 0 where
+pub record AreKnown {A S : Type 0} (names : List (List ℕ)) (inputs : ℕ) (places : Numbers) (others : IndexSet (String A) S) : Type 0 where
   pub count : inputs ≡ inputs_in names
   pub within : inputs ≤ length names
   pub placed : HasPlaces places names

@@ -1,15 +1,21 @@
 -- Numbers of things that are found by a name: of several things of one name the least number. This project's own.
-use Rattle.std.specs.Prelude.{◌≡◌, ◌+◌, ℕ, List, [], ◌∷◌, length, min, nat_lt, if◌then◌else◌, Option, Some, None}
-use Rattle.std.specs.BTreeMap.{get}
-use Rattle.std.specs.Cmp.Lexicographic.{slice_cmp}
-use Rattle.std.specs.Ordering.{nat_cmp}
+use Rattle.std.specs.Prelude.{◌≡◌, ◌+◌, ℕ, Bool, Vec, List, [], ◌∷◌, length, min, nat_lt, if◌then◌else◌, Option, Some, None}
+use Rattle.indexmap.specs.IndexMap.{get_by}
 use Rattle.sdc_model.specs.FunctionText.{place_in}
 use Rattle.sdc_model.specs.Words.{same_text}
 use Rattle.bool_lanes.specs.declared.numbers.Numbers.{Numbers}
 
+-- a key of the table is a name
+abbrev pub is_name : {A : Type 0} → List ℕ → Vec ℕ A → Bool
+is_name name key = same_text name key.items
+
+-- two keys of the table are one name
+abbrev pub is_same_key : {A : Type 0} → Vec ℕ A → Vec ℕ A → Bool
+is_same_key key other = same_text key.items other.items
+
 -- the number that is known of a name
 abbrev pub number_at : Numbers → List ℕ → Option ℕ
-number_at numbers name = get (slice_cmp nat_cmp) numbers.least name
+number_at numbers name = get_by (is_name name) numbers.least
 
 abbrev pub least : Option ℕ → Option ℕ → Option ℕ
 least None other = other

@@ -13,7 +13,7 @@ pub struct Known {
 }
 
 /// A bit of a number, counted from the lowest.
-pub fn bit(number: u16, place: u8) -> u16
+pub(crate) fn bit(number: u16, place: u8) -> u16
     requires { place < 16 }
     ensures { result ≡ bit_at number place }
 {
@@ -30,7 +30,7 @@ impl Known {
     }
 
     /// Whether the values that a completion gives the inputs are the known ones.
-    pub fn allows(&self, inputs: u8, completion: u16) -> bool
+    pub(crate) fn allows(&self, inputs: u8, completion: u16) -> bool
         requires { inputs < 16 }
         ensures { IsTrue result ↔ AgreesBelow self.now.mask self.now.value completion inputs }
     {

@@ -7,6 +7,7 @@
 mod known;
 mod names;
 mod numbers;
+mod operands;
 #[cfg(test)]
 mod parse_tests;
 mod parsing;

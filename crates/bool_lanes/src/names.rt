@@ -1,14 +1,15 @@
 //! Names of a cell's pins and state variables, found in its functions.
 
 ghost use Rattle.std.specs.Prelude.{◌≡◌, ◌≤◌, ◌+◌, drop, length, IfOk, OnOk};
+ghost use Rattle.indexmap.specs.IndexSet.{contains_text};
 ghost use Rattle.sdc_model.specs.FunctionMeaning.{inputs_in, is_other, is_unknown};
 ghost use Rattle.sdc_model.specs.FunctionText.{place_in};
 ghost use Rattle.bool_lanes.specs.KnownNames.{AddsName, HasNames};
 
 use crate::numbers::{Numbers, places_of};
-use sdc_base::{Duplicate, List, NoMemory, Text};
+use indexmap::IndexSet;
+use sdc_base::{List, NoMemory, Text};
 use std::alloc::Global;
-use std::collections::BTreeSet;
 use std::marker::Model;
 
 /// The names of a cell, as `parse` asks for them: the inputs in order, then an empty text, then the state variables and
@@ -19,7 +20,7 @@ pub struct Names {
     names: List<Text>,
     inputs: usize,
     places: Numbers,
-    others: BTreeSet<Text>,
+    others: IndexSet<String>,
 }
 
 impl Model for Names {
@@ -52,7 +53,7 @@ impl Names {
 
     /// The place of a word among the names, or their number where it is none of them.
     #[tactic(auto, using(crate::proofs::NameFacts::place_found, crate::proofs::NameFacts::place_few, crate::proofs::NameFacts::place_none))]
-    pub fn place_of(&self, word: &List<u8>) -> u16
+    pub(crate) fn place_of(&self, word: &List<u8>) -> u16
         requires { length self.now ≤ 60001 }
         ensures { result ≡ place_in self.now word.now }
     {
@@ -63,14 +64,14 @@ impl Names {
     }
 
     /// The number of inputs: of the names before the first empty one.
-    pub fn inputs(&self) -> usize
+    pub(crate) fn inputs(&self) -> usize
         ensures { result ≡ inputs_in self.now }
     {
         self.inputs
     }
 
     /// Whether a place is behind all names.
-    pub fn is_unknown(&self, pin: u16) -> bool
+    pub(crate) fn is_unknown(&self, pin: u16) -> bool
         ensures { result ≡ is_unknown self.now pin }
     {
         self.names.len() <= usize::from(pin)
@@ -78,15 +79,22 @@ impl Names {
 
     /// Whether a place has the name of a state variable or of a pin that is no input.
     #[tactic(auto, using(crate::proofs::NameFacts::other_behind, crate::proofs::NameFacts::other_among))]
-    pub fn is_other(&self, pin: u16) -> bool
+    pub(crate) fn is_other(&self, pin: u16) -> bool
         ensures { result ≡ is_other self.now pin }
     {
         let place = usize::from(pin);
         if self.inputs <= place {
             return true;
         }
-        self.others.contains(&self.names.as_slice()[place])
+        has_name(&self.others, &self.names.as_slice()[place])
     }
+}
+
+/// Whether a set has a name.
+fn has_name(set: &IndexSet<String>, name: &Text) -> bool
+    ensures { result ≡ contains_text set.now name.now }
+{
+    set.contains(name.as_str())
 }
 
 /// The place of a name, of as many as a cell may have.
@@ -119,20 +127,20 @@ fn behind(names: &[Text], others: usize) -> &[Text]
 
 /// Adds a name. The one error is want of memory.
 #[tactic(auto, using(crate::proofs::NameFacts::added))]
-fn add_name(alloc: Global, set: &mut BTreeSet<Text>, name: &Text) -> Result<(), NoMemory>
+fn add_name(alloc: Global, set: &mut IndexSet<String>, name: &Text) -> Result<(), NoMemory>
     ensures { OnOk result (AddsName set.old set.new name.now) }
 {
-    let name = name.copy(alloc)?;
+    let name = String::from_str(alloc, name.as_str())?;
     set.insert(name)?;
     Ok(())
 }
 
 /// The set of names. The one error is want of memory.
 #[tactic(auto, using(crate::proofs::NameFacts::set_none, crate::proofs::NameFacts::set_more, crate::proofs::NameFacts::set_all))]
-fn set_of(alloc: Global, names: &[Text]) -> Result<BTreeSet<Text>, NoMemory>
+fn set_of(alloc: Global, names: &[Text]) -> Result<IndexSet<String>, NoMemory>
     ensures { IfOk result (λ set. HasNames set names.now) }
 {
-    let mut set = BTreeSet::new(alloc);
+    let mut set = IndexSet::new(alloc);
     for name in names {
         add_name(alloc, &mut set, name)?;
     }

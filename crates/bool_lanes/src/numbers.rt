@@ -3,14 +3,14 @@
 ghost use Rattle.std.specs.Prelude.{◌≡◌, ℕ, List, IfOk, OnOk, None, Some};
 ghost use Rattle.bool_lanes.specs.NamedNumbers.{HasPlaces, least, number_at, number_if};
 
+use indexmap::IndexMap;
 use sdc_base::{List, NoMemory, Text};
 use std::alloc::Global;
-use std::collections::BTreeMap;
 
 /// Numbers of things that have names: of several things of one name the least number.
 #[derive(Drop)]
 pub struct Numbers {
-    least: BTreeMap<List<u8>, usize>,
+    least: IndexMap<Vec<u8>, usize>,
 }
 
 impl Numbers {
@@ -19,7 +19,7 @@ impl Numbers {
         ensures { (name : List ℕ) → number_at result name ≡ None }
     {
         Numbers {
-            least: BTreeMap::new(alloc),
+            least: IndexMap::new(alloc),
         }
     }
 
@@ -27,35 +27,25 @@ impl Numbers {
     pub fn get(&self, name: &List<u8>) -> Option<usize>
         ensures { result ≡ number_at self.now name.now }
     {
-        self.least.get(name).copied()
-    }
-
-    /// Adds a thing of a name.
-    fn add_key(&mut self, key: List<u8>, number: usize) -> Result<(), NoMemory>
-        ensures { OnOk result ((other : List ℕ) → number_at self.new other ≡ least (number_if key number other) (number_at self.old other)) }
-    {
-        let known = self.get(&key);
-        let kept = lesser(number, known);
-        self.least.insert(key, kept)?;
-        Ok(())
+        self.least.get(name.as_slice()).copied()
     }
 
     /// Adds a thing of a name. The one error is want of memory.
     pub fn add(&mut self, alloc: Global, name: &Text, number: usize) -> Result<(), NoMemory>
         ensures { OnOk result ((other : List ℕ) → number_at self.new other ≡ least (number_if name.now number other) (number_at self.old other)) }
     {
-        let key = key_of(alloc, name)?;
-        self.add_key(key, number)
+        let kept = lesser(number, self.number_of(name));
+        let key = Vec::from_slice(alloc, name.as_bytes())?;
+        self.least.insert(key, kept)?;
+        Ok(())
     }
-}
 
-/// The bytes of a name. The one error is want of memory.
-fn key_of(alloc: Global, name: &Text) -> Result<List<u8>, NoMemory>
-    ensures { IfOk result (λ key. key ≡ name.now) }
-{
-    let mut key = List::new(alloc);
-    key.extend_from_slice(name.as_bytes())?;
-    Ok(key)
+    /// The number of a text.
+    fn number_of(&self, name: &Text) -> Option<usize>
+        ensures { result ≡ number_at self.now name.now }
+    {
+        self.least.get(name.as_bytes()).copied()
+    }
 }
 
 /// The lesser of a number and another, if there is another.

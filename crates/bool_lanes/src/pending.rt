@@ -9,7 +9,7 @@ use sqlite_items::Boxed;
 use std::alloc::Global;
 
 /// Nothing before an operand.
-pub fn nothing_open(alloc: Global) -> Pending
+pub(crate) fn nothing_open(alloc: Global) -> Pending
     ensures { result ≡ text.nothing_open }
 {
     Pending {
@@ -81,7 +81,11 @@ fn product_with(
 }
 
 /// What stands before the next operand behind `^`. The one error is want of memory.
-pub fn behind_xor(alloc: Global, pending: Pending, operand: Expr) -> Result<Pending, NoMemory>
+pub(crate) fn behind_xor(
+    alloc: Global,
+    pending: Pending,
+    operand: Expr,
+) -> Result<Pending, NoMemory>
     ensures { IfOk result (λ p. p ≡ text.behind_xor pending operand) }
 {
     let operand = negated(alloc, pending.negations.as_slice(), operand)?;
@@ -95,7 +99,11 @@ pub fn behind_xor(alloc: Global, pending: Pending, operand: Expr) -> Result<Pend
 }
 
 /// What stands before the next operand behind `*`, `&` or a blank. The one error is want of memory.
-pub fn behind_and(alloc: Global, pending: Pending, operand: Expr) -> Result<Pending, NoMemory>
+pub(crate) fn behind_and(
+    alloc: Global,
+    pending: Pending,
+    operand: Expr,
+) -> Result<Pending, NoMemory>
     ensures { IfOk result (λ p. p ≡ text.behind_and pending operand) }
 {
     let operand = negated(alloc, pending.negations.as_slice(), operand)?;
@@ -109,7 +117,7 @@ pub fn behind_and(alloc: Global, pending: Pending, operand: Expr) -> Result<Pend
 }
 
 /// What stands before the next operand behind `+` or `|`. The one error is want of memory.
-pub fn behind_or(alloc: Global, pending: Pending, operand: Expr) -> Result<Pending, NoMemory>
+pub(crate) fn behind_or(alloc: Global, pending: Pending, operand: Expr) -> Result<Pending, NoMemory>
     ensures { IfOk result (λ p. p ≡ text.behind_or pending operand) }
 {
     let sum = sum_with(alloc, pending, operand)?;
@@ -122,7 +130,7 @@ pub fn behind_or(alloc: Global, pending: Pending, operand: Expr) -> Result<Pendi
 }
 
 /// What ends with an operand before `)` or at the end. The one error is want of memory.
-pub fn sum_with(alloc: Global, pending: Pending, operand: Expr) -> Result<Expr, NoMemory>
+pub(crate) fn sum_with(alloc: Global, pending: Pending, operand: Expr) -> Result<Expr, NoMemory>
     ensures { IfOk result (λ e. e ≡ text.sum_with pending operand) }
 {
     let operand = negated(alloc, pending.negations.as_slice(), operand)?;
@@ -131,7 +139,7 @@ pub fn sum_with(alloc: Global, pending: Pending, operand: Expr) -> Result<Expr, 
 }
 
 /// What stands before an operand behind one `!` more. The one error is want of memory.
-pub fn behind_not(pending: Pending) -> Result<Pending, NoMemory>
+pub(crate) fn behind_not(pending: Pending) -> Result<Pending, NoMemory>
     ensures { IfOk result (λ p. p ≡ text.behind_not pending) }
 {
     let mut negations = pending.negations;

@@ -5,6 +5,7 @@ ghost use Rattle.bool_lanes.specs.Readings.{behind_of, seen};
 ghost use Rattle.sdc_model.specs.FunctionText as spec;
 
 use crate::names::Names;
+use crate::operands::{apart, longer, operand_in, sign_of};
 use crate::pending::{behind_and, behind_not, behind_or, behind_xor, nothing_open, sum_with};
 use sdc_base::{List, NoMemory};
 use sdc_model::{Expr, Operand, Pending, Sign};
@@ -14,72 +15,10 @@ use std::alloc::Global;
 /// What is read of a text so far: the operand that stands there, what stands before it in its parentheses, and the
 /// same for each pair of parentheses around these, the outer ones first.
 #[derive(Drop)]
-pub struct Reading {
+pub(crate) struct Reading {
     operand: Operand,
     pending: Pending,
     outer: Vec<Pending>,
-}
-
-/// What a byte of a function's text is.
-fn sign_of(byte: u8) -> Sign
-    ensures { result ≡ spec.sign_of byte }
-{
-    match byte {
-        b' ' | b'\t' | b'\n' | b'\r' => Sign::Blank,
-        b'(' => Sign::Open,
-        b')' => Sign::Close,
-        b'!' => Sign::Not,
-        b'\'' => Sign::Prime,
-        b'^' => Sign::Xor,
-        b'*' | b'&' => Sign::And,
-        b'+' | b'|' => Sign::Or,
-        _ => Sign::Letter,
-    }
-}
-
-/// What a word means among a cell's names: `0`, `1`, or the pin of that name.
-fn word_meaning(names: &Names, word: &List<u8>) -> Expr
-    requires { length names.now ≤ 60001 }
-    ensures { result ≡ spec.word_meaning names.now word.now }
-{
-    if word.as_slice() == b"0".as_slice() {
-        Expr::Zero
-    } else if word.as_slice() == b"1".as_slice() {
-        Expr::One
-    } else {
-        Expr::Pin(names.place_of(word))
-    }
-}
-
-/// The operand that ends at a place, if one does.
-fn operand_in(names: &Names, operand: Operand) -> Option<Expr>
-    requires { length names.now ≤ 60001 }
-    ensures { result ≡ spec.operand_in names.now operand }
-{
-    match operand {
-        Operand::Due => None,
-        Operand::Word(word) => Some(word_meaning(names, &word)),
-        Operand::Stands(operand) | Operand::Apart(operand) => Some(operand),
-    }
-}
-
-/// An operand that ends before a blank.
-fn apart(operand: Option<Expr>) -> Operand
-    ensures { result ≡ spec.apart operand }
-{
-    match operand {
-        None => Operand::Due,
-        Some(operand) => Operand::Apart(operand),
-    }
-}
-
-/// A word with a byte more. The one error is want of memory.
-fn longer(word: List<u8>, byte: u8) -> Result<Operand, NoMemory>
-    ensures { IfOk result (λ o. o ≡ spec.word_with word byte) }
-{
-    let mut word = word;
-    word.push(byte)?;
-    Ok(Operand::Word(word))
 }
 
 /// An operator between two operands.
@@ -321,7 +260,11 @@ impl Reading {
 
 /// The expression that a text is, where it is one, each word in it being `0`, `1` or a name by its place among a
 /// cell's names (Liberty, `function`). The one error is want of memory.
-pub fn expression(alloc: Global, names: &Names, text: &[u8]) -> Result<Option<Expr>, NoMemory>
+pub(crate) fn expression(
+    alloc: Global,
+    names: &Names,
+    text: &[u8],
+) -> Result<Option<Expr>, NoMemory>
     requires { length names.now ≤ 60001 }
     ensures { IfOk result (λ o. o ≡ spec.expression names.now text.now) }
 {

@@ -1,9 +1,7 @@
 -- From the steps of the reader to what the bytes of a library mean.
-use Rattle.std.proofs.Common.{◌≡◌, ◌≤◌, ℕ, Bool, List, Option, Some, None, Result, Ok, Err, length, refl, sym, ap, subst, ◌∙◌, inl, inr}
+use Rattle.std.proofs.Common.{◌≡◌, ℕ, Bool, List, Option, Some, None, Result, Ok, Err, refl, sym, ap, subst, ◌∙◌, inl, inr}
 use Rattle.std.specs.Prelude.{◌||◌}
 use Rattle.std.specs.Str.{IsUtf8}
-use Rattle.std.specs.Str.Lossy.{utf8_valid_len}
-use Rattle.std.proofs.lemmas.Str.{utf8_valid_len_le}
 use Rattle.sdc_base.specs.Gives.{Gives, Meets}
 use Rattle.sdc_base.specs.declared.memory.At.{At}
 use Rattle.sdc_base.specs.declared.memory.Stop.{Stop}
@@ -90,9 +88,6 @@ pub read_bytes : (bytes : List ℕ) (result : Result Library (Stop (At LibKind))
 read_bytes bytes (Ok library) utf8 meets = means bytes (Ok library) utf8 meets
 read_bytes bytes (Err (stop.Refused fault)) utf8 meets = means bytes (Err fault) utf8 meets
 read_bytes bytes (Err stop.NoMemory) utf8 meets = tt
-
-pub valid_within : (bytes : List ℕ) → utf8_valid_len bytes ≤ length bytes
-valid_within bytes = utf8_valid_len_le bytes
 
 abbrev not_text : ℕ → Result Library (At LibKind)
 not_text line = Err (record { line = line; kind = NotText })

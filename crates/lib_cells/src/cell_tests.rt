@@ -7,7 +7,7 @@ use std::process::Abort;
 use std::test::Fail;
 
 /// Sees that a library's text means this.
-fn means(rt: &impl Abort, alloc: Global, text: &str, wanted: &str) -> Result<(), NoMemory> {
+pub fn means(rt: &impl Abort, alloc: Global, text: &str, wanted: &str) -> Result<(), NoMemory> {
     let shown = show_text(alloc, text)?;
     assert!(rt; shown.as_str() == wanted, "{text}: {shown}");
     Ok(())
@@ -47,81 +47,8 @@ fn five_cells(rt: HostRuntime) -> Result<(), Fail> {
     Ok(())
 }
 
-/// What a `timing` group of an output says, and what the cell has by it: its pin 0 is an input, its pin 1 the output.
-static TIMINGS: [(&str, &str); 31] = [
-    // types
-    ("", " 0>1 rr rf fr ff"),
-    ("timing_type : combinational;", " 0>1 rr rf fr ff"),
-    ("timing_type : three_state_enable;", " 0>1 rr rf fr ff"),
-    ("timing_type : three_state_disable;", " 0>1 rr rf fr ff"),
-    ("timing_type : combinational_rise;", " 0>1 rr fr"),
-    ("timing_type : combinational_fall;", " 0>1 rf ff"),
-    ("timing_type : rising_edge;", " 0>1 launch rr rf"),
-    ("timing_type : falling_edge;", " 0>1 launch fr ff"),
-    ("timing_type : setup_rising;", " Setup 1 at 0 Rise"),
-    ("timing_type : setup_falling;", " Setup 1 at 0 Fall"),
-    ("timing_type : recovery_rising;", " Setup 1 at 0 Rise"),
-    ("timing_type : recovery_falling;", " Setup 1 at 0 Fall"),
-    ("timing_type : hold_rising;", " Hold 1 at 0 Rise"),
-    ("timing_type : hold_falling;", " Hold 1 at 0 Fall"),
-    ("timing_type : removal_rising;", " Hold 1 at 0 Rise"),
-    ("timing_type : removal_falling;", " Hold 1 at 0 Fall"),
-    ("timing_type : min_pulse_width;", ""),
-    ("timing_type : clear;", ""),
-    ("timing_type : \" combinational\";", ""),
-    // senses
-    ("timing_sense : positive_unate;", " 0>1 rr ff"),
-    ("timing_sense : negative_unate;", " 0>1 rf fr"),
-    ("timing_sense : non_unate;", " 0>1 rr rf fr ff"),
-    ("timing_sense : other;", " 0>1 rr rf fr ff"),
-    (
-        "timing_sense : positive_unate; timing_type : combinational_rise;",
-        " 0>1 rr",
-    ),
-    (
-        "timing_sense : negative_unate; timing_type : combinational_rise;",
-        " 0>1 fr",
-    ),
-    (
-        "timing_sense : positive_unate; timing_type : combinational_fall;",
-        " 0>1 ff",
-    ),
-    (
-        "timing_sense : negative_unate; timing_type : combinational_fall;",
-        " 0>1 rf",
-    ),
-    (
-        "timing_sense : negative_unate; timing_type : rising_edge;",
-        " 0>1 launch rr rf",
-    ),
-    // the last one counts, in its simple form, directly in its group
-    (
-        "timing_type : setup_rising; timing_type : hold_falling;",
-        " Hold 1 at 0 Fall",
-    ),
-    ("timing_type (setup_rising);", " 0>1 rr rf fr ff"),
-    ("x () { timing_type : setup_rising; }", " 0>1 rr rf fr ff"),
-];
-
-/// Sees what a cell has by a `timing` group.
-fn times(rt: &impl Abort, alloc: Global, said: &str, wanted: &str) -> Result<(), NoMemory> {
-    let text = format!(in alloc;
-        "library (a) {{ cell (X) {{ pin (A) {{ direction : input; }} pin (Z) {{ direction : output; timing () {{ related_pin : A; {said} }} }} }} }}"
-    )?;
-    let wanted = format!(in alloc; "1000000 [X] A:Input Z:Output{wanted}")?;
-    means(rt, alloc, text.as_str(), wanted.as_str())
-}
-
-#[test]
-fn types_and_senses_of_timing(rt: HostRuntime) -> Result<(), Fail> {
-    for (said, wanted) in TIMINGS.iter() {
-        times(&rt, rt.alloc(), said, wanted)?;
-    }
-    Ok(())
-}
-
 /// What stands in a library, and its unit and cells.
-static LIBRARIES: [(&str, &str); 46] = [
+static LIBRARIES: [(&str, &str); 54] = [
     // units
     ("", "1000000"),
     ("time_unit : 1ps;", "1000"),
@@ -129,6 +56,7 @@ static LIBRARIES: [(&str, &str); 46] = [
     ("time_unit : \"100ps\"", "100000"),
     ("time_unit : 1ns", "1000000"),
     ("time_unit (1ps);", "1000000"),
+    ("time_unit : 10ps; time_unit : \"100ps\";", "100000"),
     ("x () { time_unit : 1ps; }", "1000000"),
     (
         "time_unit : 1ps; } library (b) { time_unit : 1ps; cell (X) { }",
@@ -190,10 +118,19 @@ static LIBRARIES: [(&str, &str); 46] = [
         "1000000 [X] A:Other",
     ),
     (
+        "cell (X) { latch_bank (P, Q, 2) { } pin (A) { function : Q; } }",
+        "1000000 [X] A:Other",
+    ),
+    (
+        "cell (X) { pin (A) { direction : input; function (A); } }",
+        "1000000 [X] A:Input",
+    ),
+    (
         "cell (X) { latch (P) { } pin (P) { direction : input; function : P; } }",
         "1000000 [X] P:Input",
     ),
-    // arcs: united ones, one of each launch, pins without arcs, a state variable, the first of two pins of one name
+    // arcs: united ones, one of each launch, pins without arcs, one into an input, a state variable, the first of two pins of
+    // one name, the last related pins
     (
         "cell (X) { pin (A) { direction : input; } pin (Z) { direction : output; timing () { related_pin : A; timing_sense : positive_unate; } timing () { related_pin : A; timing_type : combinational_rise; timing_sense : negative_unate; } } }",
         "1000000 [X] A:Input Z:Output 0>1 rr fr ff",
@@ -207,12 +144,24 @@ static LIBRARIES: [(&str, &str); 46] = [
         "1000000 [X] A:Input Z:Other Setup 1 at 0 Rise",
     ),
     (
+        "cell (X) { pin (A) { direction : input; timing () { related_pin : B; timing_sense : positive_unate; } } pin (B) { direction : input; } }",
+        "1000000 [X] A:Input B:Input 1>0 rr ff",
+    ),
+    (
         "cell (X) { ff (P, Q) { } pin (Z) { direction : output; timing () { related_pin : \"P\tQ\"; } } }",
         "1000000 [X] Z:Output",
     ),
     (
         "cell (X) { pin (A) { direction : input; } pin (A) { direction : output; timing () { related_pin : A; } } }",
         "1000000 [X] A:Input A:Output 0>1 rr rf fr ff",
+    ),
+    (
+        "cell (X) { pin (A B) { direction : input; } pin (Z) { direction : output; timing () { related_pin : A; related_pin : B; } } }",
+        "1000000 [X] A:Input B:Input Z:Output 1>2 rr rf fr ff",
+    ),
+    (
+        "cell (X) { pin (A B) { direction : input; } pin (Z) { direction : output; timing () { related_pin : \"A\nB\r\"; timing_type : combinational_rise; timing_sense : positive_unate; } } }",
+        "1000000 [X] A:Input B:Input Z:Output 0>2 rr 1>2 rr",
     ),
     (
         "cell (X) { pin (Z) { direction : output; timing () { related_pin : \"B A\"; } timing () { } } pin (A B) { direction : input; } }",
@@ -222,10 +171,14 @@ static LIBRARIES: [(&str, &str); 46] = [
         "cell (X) { pin (A) { direction : input; } timing () { related_pin : A; } pin (Z) { direction : output; x () { timing () { related_pin : A; } } } }",
         "1000000 [X] A:Input Z:Output",
     ),
-    // checks: equal ones once
+    // checks: equal ones once, one against a pin without arcs
     (
         "cell (X) { pin (C D) { direction : input; timing () { related_pin : C; timing_type : setup_rising; } timing () { related_pin : C; timing_type : recovery_rising; } } }",
         "1000000 [X] C:Input D:Input Setup 0 at 0 Rise Setup 1 at 0 Rise",
+    ),
+    (
+        "cell (X) { pin (C) { } pin (D) { direction : input; timing () { related_pin : C; timing_type : hold_rising; } } }",
+        "1000000 [X] C:Other D:Input Hold 1 at 0 Rise",
     ),
     // cells that are refused
     (
@@ -249,6 +202,10 @@ static LIBRARIES: [(&str, &str); 46] = [
     ),
     (
         "cell (X) { pin (A B C D E F G H I J K) { direction : input; } pin () { function : A B C D E F G H I J K; } }",
+        "1000000 [X refused]",
+    ),
+    (
+        "cell (X) { ff (P) { } pin (A B C D E F G H I J K) { direction : input; function : A B C D E F G H I J K P; } }",
         "1000000 [X refused]",
     ),
     (

@@ -1,15 +1,16 @@
 //! The characters of a library's text: its bytes with their lines, where comments and the ends of continued lines are
 //! blanks.
 
-ghost use Rattle.std.specs.Prelude.{◌≡◌, ◌++◌, ◌==◌, ◌∷◌, ◌&&◌, ◌+◌, min, map, IfOk, OnOk, if◌then◌else◌};
+ghost use Rattle.std.specs.Prelude.{◌≡◌, ◌++◌, ◌==◌, ◌∷◌, ◌&&◌, map, IfOk, OnOk, if◌then◌else◌};
 ghost use Rattle.sdc_model.specs.Bytes.{begins_with};
 ghost use Rattle.sdc_model.specs.Continued.{continues as goes_on};
-ghost use Rattle.sdc_model.specs.LibertyTokens.{begins_comment as opens_comment, begins_continued as opens_continued, in_comment_behind, is_in_comment, line_behind as line_of_next, plain, quotes, shown, within_behind};
+ghost use Rattle.sdc_model.specs.LibertyTokens.{begins_comment as opens_comment, begins_continued as opens_continued, in_comment_behind, is_in_comment, plain, quotes, shown, within_behind};
 ghost use Rattle.lib_cells.specs.Characters.{as_list, AreCharacters, IsAdded};
 ghost use Rattle.lib_cells.specs.Seen.{within_seen};
 
 use sdc_base::{List, NoMemory};
 use std::alloc::Global;
+use text_lines::line_behind;
 
 /// What a byte stands in.
 #[derive(Clone, Copy, Debug, PartialEq, Eq)]
@@ -72,16 +73,6 @@ fn behind_comment(byte: u8) -> Within
         return Within::CommentStar;
     }
     Within::Comment
-}
-
-/// The line behind a byte on a line. The last line number stays.
-pub fn line_behind(byte: u8, line: u32) -> u32
-    ensures { result ≡ line_of_next byte line }
-{
-    if byte == b'\n' {
-        return line.saturating_add(1);
-    }
-    line
 }
 
 impl Within {

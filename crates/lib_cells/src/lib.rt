@@ -5,6 +5,8 @@
 #![tactic(auto)]
 
 mod arcs;
+#[cfg(test)]
+mod break_tests;
 mod cell_faults;
 mod cell_names;
 #[cfg(test)]
@@ -21,7 +23,8 @@ mod launches;
 mod lexing;
 mod libraries;
 mod library_faults;
-mod line_numbers;
+#[cfg(test)]
+mod limit_tests;
 mod members;
 mod pins;
 mod read;
@@ -34,6 +37,8 @@ mod scan;
 mod shown;
 mod statements;
 mod timing;
+#[cfg(test)]
+mod timing_tests;
 mod tokens;
 mod units;
 mod words;

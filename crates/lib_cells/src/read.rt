@@ -2,9 +2,7 @@
 
 ghost use Rattle.std.specs.Prelude.{◌≡◌, ◌||◌, Ok};
 ghost use Rattle.std.specs.Str.{IsUtf8};
-ghost use Rattle.std.specs.Str.Lossy.{utf8_valid_len};
 ghost use Rattle.sdc_base.specs.Gives.{Gives, Meets};
-ghost use Rattle.sdc_model.specs.LastLine.{broken_text_line};
 ghost use Rattle.sdc_model.specs.LibertyText.{ReadsLibrary, read};
 ghost use Rattle.sdc_model.specs.LibertyTokens.{IsLexed, is_in_comment};
 ghost use Rattle.lib_cells.specs.Reading.{ReadsText};
@@ -13,13 +11,13 @@ ghost use Rattle.lib_cells.specs.Seen.{tokens_seen, within_seen};
 use crate::characters::{Characters, read_characters};
 use crate::lexing::{Lexed, lex};
 use crate::libraries::library_if;
-use crate::line_numbers::line_after;
 use crate::recognition::broken_line;
 use crate::statements::statements;
 use crate::tokens::Token;
 use sdc_base::{At, Stop};
 use sdc_model::{LibKind, Library};
 use std::alloc::Global;
+use text_lines::no_text_line;
 
 /// The library of a file's bytes (Liberty).
 ///
@@ -37,16 +35,6 @@ pub fn read_lib(alloc: Global, bytes: &[u8]) -> Result<Library, Stop<At<LibKind>
             Err(Stop::Refused(At { line, kind }))
         }
     }
-}
-
-/// The line of the first byte that is no UTF-8, given the number of those before it.
-#[tactic(auto, using(crate::proofs::ReadingFacts::valid_within))]
-fn no_text_line(bytes: &[u8], valid: usize) -> u32
-    requires { valid ≡ utf8_valid_len bytes.now }
-    ensures { result ≡ broken_text_line bytes.now }
-{
-    let (front, _) = bytes.split_at(valid);
-    line_after(front)
 }
 
 /// The library of a text, refused as `read_lib` refuses a file that is one.

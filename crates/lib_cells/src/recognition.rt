@@ -7,11 +7,11 @@ ghost use Rattle.lib_cells.specs.Seen.{tokens_seen};
 
 use crate::grammar::Liberty;
 use crate::kinds::kinds;
-use crate::line_numbers::last_line;
 use crate::tokens::Token;
 use sdc_base::NoMemory;
 use sdc_model::LibertySymbol;
 use std::alloc::Global;
+use text_lines::last_line;
 use token_grammar::{Break, first_break};
 
 /// The line of the token at a place, and 1 where there is none.
