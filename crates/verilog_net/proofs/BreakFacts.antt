@@ -1,8 +1,6 @@
 -- Where tokens break, by the machine's break of their kinds.
-use Rattle.std.proofs.Common.{◌≡◌, ◌≤◌, ℕ, List, Option, None, Some, Result, Err, length, slice_get, ap, subst, inl, inr}
+use Rattle.std.proofs.Common.{◌≡◌, ℕ, List, Option, None, Some, Result, Err, slice_get, ap, subst, inl, inr}
 use Rattle.std.specs.Str.{IsUtf8}
-use Rattle.std.specs.Str.Lossy.{utf8_valid_len}
-use Rattle.std.proofs.lemmas.Str.{utf8_valid_len_le}
 use Rattle.sdc_base.specs.declared.memory.At.{At}
 use Rattle.source_types.specs.declared.fault_kinds.VerilogKind.{VerilogKind}
 use Rattle.source_types.specs.declared.fault_kinds.VerilogKind.TheVariants.{NotText, VerilogForm}
@@ -54,6 +52,3 @@ form_refused text tokens line utf8 stand breaks = inl (record {
 
 pub no_text : (bytes : List ℕ) (line : ℕ) → (IsUtf8 bytes → ⊥) → line ≡ broken_text_line bytes → ReadsVerilog bytes (Err (record { line = line; kind = NotText }))
 no_text bytes line none is = inr (none, ap (λ (n : ℕ). fault n NotText) is)
-
-pub valid_within : (bytes : List ℕ) (valid : ℕ) → valid ≡ utf8_valid_len bytes → valid ≤ length bytes
-valid_within bytes valid is = rw is (utf8_valid_len_le bytes)

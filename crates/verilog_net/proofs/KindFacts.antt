@@ -1,6 +1,6 @@
 -- The kinds of tokens in a row, token by token.
 use Rattle.std.proofs.Common.{◌≡◌, ◌∙◌, ◌+◌, ◌≤◌, ◌++◌, ◌∷◌, ℕ, List, [], String, append_assoc, drop, refl, sym, ap, arith}
-use Rattle.std.specs.BTreeMap.{BTreeMap}
+use Rattle.indexmap.specs.IndexSet.{IndexSet}
 use Rattle.source_types.specs.declared.verilog_tokens.VerilogToken.{VerilogToken}
 use Rattle.source_types.specs.declared.verilog_tokens.VerilogToken.TheVariants as kind
 use Rattle.sdc_model.specs.VerilogKinds as grammar
@@ -16,17 +16,17 @@ abbrev pub no_token : Token
 no_token = record { at = 0; line = 0; kind = kind.Module; text = record { ref_ptr = (0, 0); now = [] } }
 
 -- the kinds so far, with those that what stands before a place gives to the rest, are all
-pub record KindsSoFar {A V : Type 0} (tokens : List Token) (at : ℕ) (kinds : List VerilogToken) (part : Part) (names : BTreeMap (String A) V) (braces : ℕ) : Type 0 where
+pub record KindsSoFar {A S : Type 0} (tokens : List Token) (at : ℕ) (kinds : List VerilogToken) (part : Part) (names : IndexSet (String A) S) (braces : ℕ) : Type 0 where
   pub listed : List (List ℕ)
   pub has : HasNames names listed
   pub few : braces ≤ at
   pub same : kinds ++ grammar.kinds_from (record { part = part_seen part; listed = listed; braces = braces }) (tokens_seen (drop at tokens)) ≡ grammar.kinds_of (tokens_seen tokens)
 
-pub no_kinds : {A V : Type 0} (tokens : List Token) (names : BTreeMap (String A) V) → HasNames names [] → KindsSoFar tokens 0 [] Statement names 0
+pub no_kinds : {A S : Type 0} (tokens : List Token) (names : IndexSet (String A) S) → HasNames names [] → KindsSoFar tokens 0 [] Statement names 0
 no_kinds tokens names has = record { listed = []; has = has; few = omega arith; same = refl }
 
 -- one more kind
-pub one_kind : {A V : Type 0} (tokens rest : List Token) (token : Token) (at : ℕ) (kinds more : List VerilogToken) (part next : Part) (names then : BTreeMap (String A) V) (braces braces_now : ℕ) (k : VerilogToken)
+pub one_kind : {A S : Type 0} (tokens rest : List Token) (token : Token) (at : ℕ) (kinds more : List VerilogToken) (part next : Part) (names then : IndexSet (String A) S) (braces braces_now : ℕ) (k : VerilogToken)
     → (so_far : KindsSoFar tokens at kinds part names braces) → drop at tokens ≡ token ∷ rest → drop (at + 1) tokens ≡ rest
     → more ≡ kinds ++ k ∷ []
     → ((listed : List (List ℕ)) → HasNames names listed → k ≡ grammar.kind_in (record { part = part_seen part; listed = listed; braces = braces }) token.text.now token.kind)
@@ -60,7 +60,7 @@ one_kind tokens rest token at kinds more part next names then braces braces_now 
       ∙ (ap (λ ts. kinds ++ grammar.kinds_from now (tokens_seen ts)) (sym here) ∙ so_far.same))))
 
 -- all kinds
-pub all_kinds : {A V : Type 0} (tokens : List Token) (at : ℕ) (kinds : List VerilogToken) (part : Part) (names : BTreeMap (String A) V) (braces : ℕ)
+pub all_kinds : {A S : Type 0} (tokens : List Token) (at : ℕ) (kinds : List VerilogToken) (part : Part) (names : IndexSet (String A) S) (braces : ℕ)
     → KindsSoFar tokens at kinds part names braces → drop at tokens ≡ [] → kinds ≡ grammar.kinds_of (tokens_seen tokens)
 all_kinds tokens at kinds part names braces so_far end =
     sym (append_none kinds) ∙ (ap (λ ts. kinds ++ grammar.kinds_from (record { part = part_seen part; listed = so_far.listed; braces = braces }) (tokens_seen ts)) (sym end) ∙ so_far.same)

@@ -6,9 +6,9 @@ mod GapFacts
 mod KeywordFacts
 mod KindFacts
 mod LexedFacts
-mod LineFacts
 mod LinkFacts
 mod MeantFacts
+mod ModuleFacts
 mod NameFacts
 mod NumberFacts
 mod RangeFacts

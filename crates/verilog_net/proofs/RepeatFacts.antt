@@ -3,15 +3,14 @@ use Rattle.std.proofs.Common.{◌≡◌, ◌∙◌, ◌≤◌, ◌++◌, ◌∷�
 use Rattle.std.specs.Prelude.{if◌then◌else◌}
 use Rattle.std.proofs.lemmas.List.{append-nil, drop_all}
 use Rattle.std.proofs.lemmas.List.Elements.{filter-append}
-use Rattle.std.proofs.lemmas.Map.Text.{btree_map_updates_text}
+use Rattle.std.proofs.lemmas.Map.Text.{hash_map_updates_text}
 use Rattle.std.proofs.lemmas.Slice.Eq.{bytes_eq-Decides}
-use Rattle.std.specs.BTreeMap.{BTreeMap, UpdatesBy, get_by_text}
-use Rattle.std.specs.Cmp.Lexicographic.{slice_cmp}
+use Rattle.indexmap.specs.IndexMap.{IndexMap, UpdatesBy, get_by_text}
+use Rattle.indexmap.specs.IndexSet.{IndexSet}
 use Rattle.std.specs.List.{filter}
 use Rattle.std.specs.Option.{option_map}
-use Rattle.std.specs.Ordering.{nat_cmp}
 use Rattle.std.specs.Str.{bytes_eq}
-use Rattle.std.specs.String.{string_bytes, string_cmp}
+use Rattle.std.specs.String.{string_bytes, string_eq}
 use Rattle.sdc_model.specs.Verilog as spec
 use Rattle.sdc_model.specs.VerilogKinds.{is_among}
 use Rattle.sdc_model.specs.VerilogNets.{is_of}
@@ -31,19 +30,19 @@ use Rattle.verilog_net.specs.Syntax.{declared_seen, declareds_seen}
 -- ---- names
 
 -- the names that were found so far, with those among the rest, are all
-pub record RepeatedSoFar {A V : Type 0} (before : BTreeMap (String A) V) (found rest all : List Token) : Type 0 where
+pub record RepeatedSoFar {A S : Type 0} (before : IndexSet (String A) S) (found rest all : List Token) : Type 0 where
   pub listed : List (List ℕ)
   pub has : HasNames before listed
   pub same : tokens_seen found ++ spec.repeated listed (tokens_seen rest) ≡ spec.repeated [] (tokens_seen all)
 
-pub none_repeated : {A V : Type 0} (before : BTreeMap (String A) V) (found all : List Token) → HasNames before [] → found ≡ [] → RepeatedSoFar before found all all
+pub none_repeated : {A S : Type 0} (before : IndexSet (String A) S) (found all : List Token) → HasNames before [] → found ≡ [] → RepeatedSoFar before found all all
 none_repeated before found all has none = record {
   listed = [];
   has = has;
   same = ap (λ (ts : List Token). tokens_seen ts ++ spec.repeated [] (tokens_seen all)) none;
 }
 
-pub one_repeated : {A V : Type 0} (before after : BTreeMap (String A) V) (found more rest behind all : List Token) (name : Token) → RepeatedSoFar before found rest all → rest ≡ name ∷ behind
+pub one_repeated : {A S : Type 0} (before after : IndexSet (String A) S) (found more rest behind all : List Token) (name : Token) → RepeatedSoFar before found rest all → rest ≡ name ∷ behind
     → ((listed : List (List ℕ)) → HasNames before listed → tokens_seen more ≡ tokens_seen found ++ (if is_among listed name.text.now then token_seen name ∷ [] else []))
     → ((listed : List (List ℕ)) → HasNames before listed → HasNames after (name.text.now ∷ listed)) → RepeatedSoFar after more behind all
 one_repeated before after found more rest behind all name so_far here found_is names_are = record {
@@ -55,7 +54,7 @@ one_repeated before after found more rest behind all name so_far here found_is n
       ∙ (ap (λ (ts : List Token). tokens_seen found ++ spec.repeated so_far.listed (tokens_seen ts)) (sym here) ∙ so_far.same));
 }
 
-pub all_repeated : {A V : Type 0} (before : BTreeMap (String A) V) (found all : List Token) (i : ℕ) → RepeatedSoFar before found (drop i all) all → length all ≤ i → tokens_seen found ≡ spec.repeated [] (tokens_seen all)
+pub all_repeated : {A S : Type 0} (before : IndexSet (String A) S) (found all : List Token) (i : ℕ) → RepeatedSoFar before found (drop i all) all → length all ≤ i → tokens_seen found ≡ spec.repeated [] (tokens_seen all)
 all_repeated before found all i so_far end =
     sym (append-nil (tokens_seen found)) ∙ (ap (λ (ts : List Token). tokens_seen found ++ spec.repeated so_far.listed (tokens_seen ts)) (sym (drop_all i all end)) ∙ so_far.same)
 
@@ -66,7 +65,7 @@ second_is [] d = refl
 second_is (a ∷ []) d = refl
 second_is (a ∷ b ∷ ds) d = refl
 
-pub second_known : {A : Type 0} (known : BTreeMap (String A) Earlier) (before : List syntax.Declared) (found : Option Earlier) (d : Declared) (b : Bool) → HasEarlier known before → found ≡ get_by_text known d.name.text.now
+pub second_known : {A S : Type 0} (known : IndexMap (String A) Earlier S) (before : List syntax.Declared) (found : Option Earlier) (d : Declared) (b : Bool) → HasEarlier known before → found ≡ get_by_text known d.name.text.now
     → b ≡ is_second_of (option_map earlier_seen found) (declared_seen d) → b ≡ spec.is_second (filter (is_of d.name.text.now) before) (declared_seen d)
 second_known known before found d b has found_is is =
     is
@@ -93,13 +92,13 @@ filter_one : (name : List ℕ) (d : syntax.Declared) (t : Bool) → cond t (d �
 filter_one name d true = refl
 filter_one name d false = refl
 
-pub known_added : {A : Type 0} (old new : BTreeMap (String A) Earlier) (key : List ℕ) (later : Earlier) (d : Declared) (known : Option Earlier) (before : List syntax.Declared) → key ≡ d.name.text.now → known ≡ get_by_text old d.name.text.now
-    → earlier_seen later ≡ one_later (option_map earlier_seen known) (declared_seen d) → UpdatesBy string_cmp (λ k. slice_cmp nat_cmp key (string_bytes k)) old new (Some later)
+pub known_added : {A S : Type 0} (old new : IndexMap (String A) Earlier S) (key : List ℕ) (later : Earlier) (d : Declared) (known : Option Earlier) (before : List syntax.Declared) → key ≡ d.name.text.now → known ≡ get_by_text old d.name.text.now
+    → earlier_seen later ≡ one_later (option_map earlier_seen known) (declared_seen d) → UpdatesBy string_eq (λ k. bytes_eq key (string_bytes k)) old new (Some later)
     → HasEarlier old before → HasEarlier new (before ++ declared_seen d ∷ [])
 known_added old new key later d known before key_is known_is later_seen updates has name =
     let here : same_text d.name.text.now name ≡ true → option_map earlier_seen known ≡ earlier_of (filter (is_of name) before) =
     λ same. ap (option_map earlier_seen) known_is ∙ (ap (λ (n : List ℕ). option_map earlier_seen (get_by_text old n)) ((bytes_eq-Decides d.name.text.now name).0 same) ∙ has name) in
-    ap (option_map earlier_seen) (btree_map_updates_text key old new (Some later) updates name)
+    ap (option_map earlier_seen) (hash_map_updates_text key old new (Some later) updates name)
     ∙ (changed later (get_by_text old name) (bytes_eq key name)
     ∙ (ap (λ (k : List ℕ). cond (same_text k name) (Some (earlier_seen later)) (option_map earlier_seen (get_by_text old name))) key_is
     ∙ (ap (λ (e : syntax.Declared × Bool). cond (same_text d.name.text.now name) (Some e) (option_map earlier_seen (get_by_text old name))) later_seen
@@ -113,19 +112,19 @@ abbrev pub no_declared : Declared
 no_declared = record { name = no_token; role = Port Input; range = None }
 
 -- the names that were found so far, with those among the rest, are all
-pub record SecondsSoFar {A : Type 0} (known : BTreeMap (String A) Earlier) (found : List Token) (rest all : List Declared) : Type 0 where
+pub record SecondsSoFar {A S : Type 0} (known : IndexMap (String A) Earlier S) (found : List Token) (rest all : List Declared) : Type 0 where
   pub before : List syntax.Declared
   pub has : HasEarlier known before
   pub same : tokens_seen found ++ spec.seconds before (declareds_seen rest) ≡ spec.seconds [] (declareds_seen all)
 
-pub no_seconds : {A : Type 0} (known : BTreeMap (String A) Earlier) (found : List Token) (all : List Declared) → HasEarlier known [] → found ≡ [] → SecondsSoFar known found all all
+pub no_seconds : {A S : Type 0} (known : IndexMap (String A) Earlier S) (found : List Token) (all : List Declared) → HasEarlier known [] → found ≡ [] → SecondsSoFar known found all all
 no_seconds known found all has none = record {
   before = [];
   has = has;
   same = ap (λ (ts : List Token). tokens_seen ts ++ spec.seconds [] (declareds_seen all)) none;
 }
 
-pub one_second : {A : Type 0} (known after : BTreeMap (String A) Earlier) (found more : List Token) (rest behind all : List Declared) (d : Declared) → SecondsSoFar known found rest all → rest ≡ d ∷ behind
+pub one_second : {A S : Type 0} (known after : IndexMap (String A) Earlier S) (found more : List Token) (rest behind all : List Declared) (d : Declared) → SecondsSoFar known found rest all → rest ≡ d ∷ behind
     → ((before : List syntax.Declared) → HasEarlier known before → tokens_seen more ≡ tokens_seen found ++ (if spec.is_second (filter (is_of d.name.text.now) before) (declared_seen d) then token_seen d.name ∷ [] else []))
     → ((before : List syntax.Declared) → HasEarlier known before → HasEarlier after (before ++ declared_seen d ∷ [])) → SecondsSoFar after more behind all
 one_second known after found more rest behind all d so_far here found_is known_are = record {
@@ -137,6 +136,6 @@ one_second known after found more rest behind all d so_far here found_is known_a
       ∙ (ap (λ (ds : List Declared). tokens_seen found ++ spec.seconds so_far.before (declareds_seen ds)) (sym here) ∙ so_far.same));
 }
 
-pub all_seconds : {A : Type 0} (known : BTreeMap (String A) Earlier) (found : List Token) (all : List Declared) (i : ℕ) → SecondsSoFar known found (drop i all) all → length all ≤ i → tokens_seen found ≡ spec.seconds [] (declareds_seen all)
+pub all_seconds : {A S : Type 0} (known : IndexMap (String A) Earlier S) (found : List Token) (all : List Declared) (i : ℕ) → SecondsSoFar known found (drop i all) all → length all ≤ i → tokens_seen found ≡ spec.seconds [] (declareds_seen all)
 all_seconds known found all i so_far end =
     sym (append-nil (tokens_seen found)) ∙ (ap (λ (ds : List Declared). tokens_seen found ++ spec.seconds so_far.before (declareds_seen ds)) (sym (drop_all i all end)) ∙ so_far.same)

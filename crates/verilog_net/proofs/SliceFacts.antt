@@ -1,5 +1,5 @@
 -- Slices of tokens that counts take, and the tokens in them.
-use Rattle.std.proofs.Common.{◌≡◌, ◌∙◌, ◌+◌, ◌-◌, ◌∷◌, ℕ, Bool, true, false, cond, List, [], Bor, drop, length, not, take, refl, sym, ap, arith}
+use Rattle.std.proofs.Common.{◌≡◌, ◌∙◌, ◌+◌, ◌-◌, ◌∷◌, ℕ, Bool, true, false, cond, List, [], drop, length, not, take, refl, sym, ap, arith}
 use Rattle.std.proofs.lemmas.List.{drop-map, drop_all, length-map, take-map, take_rest}
 use Rattle.std.proofs.lemmas.List.Recursion.{is_position_or_len}
 use Rattle.std.specs.Prelude.{◌||◌}
@@ -9,7 +9,7 @@ use Rattle.sdc_model.specs.VerilogSyntax as grammar
 use Rattle.sdc_model.specs.VerilogTokens as lexical
 use Rattle.verilog_net.specs.declared.tokens.Token.{Token}
 use Rattle.verilog_net.specs.Seen.{token_seen, tokens_seen}
-use Rattle.verilog_net.specs.Syntax.{directions_len, is_direction_seen, others_len, parts_seen}
+use Rattle.verilog_net.specs.Syntax.{directions_len, is_direction_seen, others_len}
 
 turned : (n : ℕ) (t : Bool) → cond (not t) (1 + n) 0 ≡ cond t 0 (1 + n)
 turned n true = refl
@@ -55,7 +55,3 @@ any_is (x ∷ xs) = ap (λ t. grammar.is_direction (token_seen x) || t) (any_is 
 
 pub any_direction : (xs : List Token) (b : Bool) → b ≡ list_any is_direction_seen xs → b ≡ list_any grammar.is_direction (tokens_seen xs)
 any_direction xs b is = is ∙ any_is xs
-
-pub parts_behind : (parts : List (Bor (List Token))) → parts_seen (drop 1 parts) ≡ drop 1 (parts_seen parts)
-parts_behind [] = refl
-parts_behind (part ∷ parts) = refl

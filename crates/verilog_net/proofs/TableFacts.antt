@@ -2,25 +2,19 @@
 use Rattle.std.proofs.Common.{◌≡◌, ◌∙◌, ◌+◌, ◌<◌, ◌≤◌, ◌++◌, ◌∷◌, ℕ, Bool, true, false, cond, List, [], Option, None, Some, String, drop, get_or, length, not, refl, sym, ap, subst}
 use Rattle.std.specs.Prelude.{◌||◌, ◌&&◌, if◌then◌else◌}
 use Rattle.std.proofs.lemmas.List.{drop_all, drop_more}
-use Rattle.std.proofs.lemmas.Map.Text.{btree_map_updates_text}
+use Rattle.std.proofs.lemmas.Map.Text.{hash_map_updates_text}
 use Rattle.std.proofs.lemmas.Slice.Eq.{bytes_eq-Decides}
-use Rattle.std.specs.BTreeMap.{BTreeMap, UpdatesBy, get_by_text}
-use Rattle.std.specs.Cmp.Lexicographic.{slice_cmp}
-use Rattle.std.specs.List.{All, AllByRecursion, find, list_any}
-use Rattle.std.proofs.lemmas.List.Elements.{All-from_recursion}
+use Rattle.indexmap.specs.IndexMap.{IndexMap, UpdatesBy, get_by_text}
+use Rattle.std.specs.List.{find, list_any}
 use Rattle.std.specs.Option.{is_some, option_map, option_or}
-use Rattle.std.specs.Ordering.{nat_cmp}
 use Rattle.std.specs.Str.{bytes_eq}
-use Rattle.std.specs.String.{string_bytes, string_cmp}
+use Rattle.std.specs.String.{string_bytes, string_eq}
 use Rattle.sdc_base.proofs.CaseFacts.{by_bool}
 use Rattle.sdc_model.specs.VerilogNets.{declaration_of, is_of, is_port, is_port_of}
 use Rattle.sdc_model.specs.VerilogSyntax as grammar
 use Rattle.sdc_model.specs.Words.{same_text}
 use Rattle.verilog_net.specs.declared.declarations.Declared.{Declared}
-use Rattle.sdc_model.specs.VerilogStatements.{declarations}
-use Rattle.verilog_net.specs.declared.names.Named.{Named}
-use Rattle.verilog_net.specs.Modules.{written_seen}
-use Rattle.verilog_net.specs.Names.{IsNamed, IsTied, better, declarations_of, entry_seen, ports_only, with_entries, with_entry}
+use Rattle.verilog_net.specs.Names.{better, entry_seen, ports_only, with_entries, with_entry}
 use Rattle.verilog_net.specs.Syntax.{declared_seen, declareds_seen}
 
 -- ---- one more declaration
@@ -33,13 +27,13 @@ same_known : (d : grammar.Declared) (known found : Option grammar.Declared) (t :
 same_known d known found true h = ap (λ (k : Option grammar.Declared). Some (better k d)) (h refl)
 same_known d known found false h = refl
 
-pub entry_added : {A : Type 0} (old new : BTreeMap (String A) Declared) (key name : List ℕ) (kept d : Declared) (known : Option Declared) → key ≡ d.name.text.now → known ≡ get_by_text old d.name.text.now
-    → declared_seen kept ≡ better (option_map declared_seen known) (declared_seen d) → UpdatesBy string_cmp (λ k. slice_cmp nat_cmp key (string_bytes k)) old new (Some kept)
+pub entry_added : {A S : Type 0} (old new : IndexMap (String A) Declared S) (key name : List ℕ) (kept d : Declared) (known : Option Declared) → key ≡ d.name.text.now → known ≡ get_by_text old d.name.text.now
+    → declared_seen kept ≡ better (option_map declared_seen known) (declared_seen d) → UpdatesBy string_eq (λ k. bytes_eq key (string_bytes k)) old new (Some kept)
     → entry_seen new name ≡ with_entry (declared_seen d) name (entry_seen old name)
 entry_added old new key name kept d known key_is known_is kept_is updates =
     let here : same_text d.name.text.now name ≡ true → option_map declared_seen known ≡ entry_seen old name =
     λ same. ap (option_map declared_seen) known_is ∙ ap (entry_seen old) ((bytes_eq-Decides d.name.text.now name).0 same) in
-    ap (option_map declared_seen) (btree_map_updates_text key old new (Some kept) updates name)
+    ap (option_map declared_seen) (hash_map_updates_text key old new (Some kept) updates name)
     ∙ (changed kept (get_by_text old name) (bytes_eq key name)
     ∙ (ap (λ (k : List ℕ). cond (same_text k name) (Some (declared_seen kept)) (entry_seen old name)) key_is
     ∙ (ap (λ (s : grammar.Declared). cond (same_text d.name.text.now name) (Some s) (entry_seen old name)) kept_is
@@ -75,22 +69,22 @@ pub entries_are : (ds : List grammar.Declared) (name : List ℕ) → with_entrie
 entries_are ds name = entries_known ds name None
 
 -- what is known so far, with the declarations that are left, is what is known of all
-abbrev pub EntriesSoFar : {A : Type 0} → BTreeMap (String A) Declared → BTreeMap (String A) Declared → List Declared → List Declared → Type 0
+abbrev pub EntriesSoFar : {A S : Type 0} → IndexMap (String A) Declared S → IndexMap (String A) Declared S → List Declared → List Declared → Type 0
 EntriesSoFar start now rest all = (name : List ℕ) → with_entries (declareds_seen rest) name (entry_seen now name) ≡ with_entries (declareds_seen all) name (entry_seen start name)
 
-pub one_entry : {A : Type 0} (start now after : BTreeMap (String A) Declared) (all : List Declared) (i : ℕ) (d : Declared) → i < length all → EntriesSoFar start now (drop i all) all
+pub one_entry : {A S : Type 0} (start now after : IndexMap (String A) Declared S) (all : List Declared) (i : ℕ) (d : Declared) → i < length all → EntriesSoFar start now (drop i all) all
     → ((name : List ℕ) → entry_seen after name ≡ with_entry (declared_seen (get_or all i d)) name (entry_seen now name)) → EntriesSoFar start after (drop (i + 1) all) all
 one_entry start now after all i d inside so_far step name =
     ap (with_entries (declareds_seen (drop (i + 1) all)) name) (step name)
     ∙ (ap (λ (ds : List Declared). with_entries (declareds_seen ds) name (entry_seen now name)) (sym (drop_more all i d inside)) ∙ so_far name)
 
-pub all_entries : {A : Type 0} (start now : BTreeMap (String A) Declared) (all : List Declared) (i : ℕ) → length all ≤ i → EntriesSoFar start now (drop i all) all
+pub all_entries : {A S : Type 0} (start now : IndexMap (String A) Declared S) (all : List Declared) (i : ℕ) → length all ≤ i → EntriesSoFar start now (drop i all) all
     → (name : List ℕ) → entry_seen now name ≡ with_entries (declareds_seen all) name (entry_seen start name)
 all_entries start now all i end so_far name =
     ap (λ (ds : List Declared). with_entries (declareds_seen ds) name (entry_seen now name)) (sym (drop_all i all end)) ∙ so_far name
 
 -- a table that began with nothing
-pub entries_tied : {A : Type 0} (start now : BTreeMap (String A) Declared) (all : List Declared) → ((name : List ℕ) → get_by_text start name ≡ None)
+pub entries_tied : {A S : Type 0} (start now : IndexMap (String A) Declared S) (all : List Declared) → ((name : List ℕ) → get_by_text start name ≡ None)
     → ((name : List ℕ) → entry_seen now name ≡ with_entries (declareds_seen all) name (entry_seen start name)) → (name : List ℕ) → entry_seen now name ≡ declaration_of (declareds_seen all) name
 entries_tied start now all none is name =
     is name ∙ (ap (λ (o : Option Declared). with_entries (declareds_seen all) name (option_map declared_seen o)) (none name) ∙ entries_are (declareds_seen all) name)
@@ -142,18 +136,3 @@ port_declared ds name o is = some_seen o ∙ (ap is_some is ∙ sym (any_port ds
   some_seen : (o : Option Declared) → is_some o ≡ is_some (option_map declared_seen o)
   some_seen None = refl
   some_seen (Some d) = refl
-
--- ---- modules with their declarations
-
-pub none_named : (found : List Named) → found ≡ [] → AllByRecursion IsNamed found
-none_named [] none = tt
-none_named (m ∷ ms) none = cc
-
-pub one_named : (found more : List Named) (m : Named) → AllByRecursion IsNamed found → more ≡ found ++ m ∷ [] → IsTied m.names → declarations_of m.names ≡ declarations (written_seen m.written) → AllByRecursion IsNamed more
-one_named found more m all is tied same = subst (λ (ms : List Named). AllByRecursion IsNamed ms) (sym is) (behind found all) where
-  behind : (ms : List Named) → AllByRecursion IsNamed ms → AllByRecursion IsNamed (ms ++ m ∷ [])
-  behind [] h = ((tied, same), tt)
-  behind (x ∷ xs) h = (h.0, behind xs h.1)
-
-pub all_named : (found : List Named) → AllByRecursion IsNamed found → All IsNamed found
-all_named found h = All-from_recursion IsNamed found h

@@ -2,7 +2,7 @@
 use Rattle.std.proofs.Common.{◌≡◌, ◌∙◌, ◌≤◌, ◌++◌, ◌∷◌, ℕ, Bool, true, false, List, [], Option, None, Some, String, append_assoc, drop, length, refl, sym, ap}
 use Rattle.std.specs.Prelude.{◌||◌, if◌then◌else◌}
 use Rattle.std.proofs.lemmas.List.{append-nil, drop_all}
-use Rattle.std.specs.BTreeMap.{BTreeMap}
+use Rattle.indexmap.specs.IndexSet.{IndexSet}
 use Rattle.std.specs.List.{cons_option, filter_map}
 use Rattle.std.specs.Option.{option_to_list}
 use Rattle.sdc_base.proofs.CaseFacts.{by_bool}
@@ -33,12 +33,12 @@ used_more all piece pieces = option_front (spec.used_wire all piece) (filter_map
 
 -- ---- a set of names
 
-pub record NamesSoFar {A V : Type 0} (set : BTreeMap (String A) V) (rest all : List Token) : Type 0 where
+pub record NamesSoFar {A S : Type 0} (set : IndexSet (String A) S) (rest all : List Token) : Type 0 where
   pub listed : List (List ℕ)
   pub has : HasNames set listed
   pub same : (name : List ℕ) → (is_among listed name || is_among (texts (tokens_seen rest)) name) ≡ is_among (texts (tokens_seen all)) name
 
-pub no_names : {A V : Type 0} (set : BTreeMap (String A) V) (all : List Token) → HasNames set [] → NamesSoFar set all all
+pub no_names : {A S : Type 0} (set : IndexSet (String A) S) (all : List Token) → HasNames set [] → NamesSoFar set all all
 no_names set all has = record { listed = []; has = has; same = λ name. refl }
 
 or_turned : (a b c : Bool) → ((a || b) || c) ≡ (b || (a || c))
@@ -51,7 +51,7 @@ or_false : (a : Bool) → a ≡ (a || false)
 or_false true = refl
 or_false false = refl
 
-pub one_name : {A V : Type 0} (set after : BTreeMap (String A) V) (rest behind all : List Token) (token : Token) → NamesSoFar set rest all → rest ≡ token ∷ behind
+pub one_name : {A S : Type 0} (set after : IndexSet (String A) S) (rest behind all : List Token) (token : Token) → NamesSoFar set rest all → rest ≡ token ∷ behind
     → ((listed : List (List ℕ)) → HasNames set listed → HasNames after (token.text.now ∷ listed)) → NamesSoFar after behind all
 one_name set after rest behind all token so_far here names_are = record {
   listed = token.text.now ∷ so_far.listed;
@@ -61,7 +61,7 @@ one_name set after rest behind all token so_far here names_are = record {
       ∙ (ap (λ (ts : List Token). is_among so_far.listed name || is_among (texts (tokens_seen ts)) name) (sym here) ∙ so_far.same name);
 }
 
-pub all_names : {A V : Type 0} (set : BTreeMap (String A) V) (all : List Token) (i : ℕ) → NamesSoFar set (drop i all) all → length all ≤ i → HasNames set (texts (tokens_seen all))
+pub all_names : {A S : Type 0} (set : IndexSet (String A) S) (all : List Token) (i : ℕ) → NamesSoFar set (drop i all) all → length all ≤ i → HasNames set (texts (tokens_seen all))
 all_names set all i so_far end name =
     so_far.has name
     ∙ (or_false (is_among so_far.listed name)
@@ -78,12 +78,12 @@ wires_parted names w ws =
 abbrev pub no_candidate : Candidate
 no_candidate = record { name = record { ref_ptr = (0, 0); now = [] }; range = None; tie = None }
 
-pub record NewSoFar {A V : Type 0} (taken : BTreeMap (String A) V) (names : List (List ℕ)) (start nets : List Wire) (rest all : List Candidate) : Type 0 where
+pub record NewSoFar {A S : Type 0} (taken : IndexSet (String A) S) (names : List (List ℕ)) (start nets : List Wire) (rest all : List Candidate) : Type 0 where
   pub listed : List (List ℕ)
   pub has : HasNames taken listed
   pub same : nets ++ spec.new_wires listed (candidates_seen rest) ≡ start ++ spec.new_wires names (candidates_seen all)
 
-pub one_added : {A V : Type 0} (taken after : BTreeMap (String A) V) (names : List (List ℕ)) (start nets more : List Wire) (rest behind all : List Candidate) (net : Candidate) → NewSoFar taken names start nets rest all → rest ≡ net ∷ behind
+pub one_added : {A S : Type 0} (taken after : IndexSet (String A) S) (names : List (List ℕ)) (start nets more : List Wire) (rest behind all : List Candidate) (net : Candidate) → NewSoFar taken names start nets rest all → rest ≡ net ∷ behind
     → ((listed : List (List ℕ)) → HasNames taken listed → AddsWire after listed (candidate_seen net) nets more) → NewSoFar after names start more behind all
 one_added taken after names start nets more rest behind all net so_far here adds =
     let added = adds so_far.listed so_far.has in
@@ -97,6 +97,6 @@ one_added taken after names start nets more rest behind all net so_far here adds
           ∙ (ap (λ (cs : List Candidate). nets ++ spec.new_wires so_far.listed (candidates_seen cs)) (sym here) ∙ so_far.same)));
     }
 
-pub all_added : {A V : Type 0} (taken : BTreeMap (String A) V) (names : List (List ℕ)) (start nets : List Wire) (all : List Candidate) (i : ℕ) → NewSoFar taken names start nets (drop i all) all → length all ≤ i → nets ≡ start ++ spec.new_wires names (candidates_seen all)
+pub all_added : {A S : Type 0} (taken : IndexSet (String A) S) (names : List (List ℕ)) (start nets : List Wire) (all : List Candidate) (i : ℕ) → NewSoFar taken names start nets (drop i all) all → length all ≤ i → nets ≡ start ++ spec.new_wires names (candidates_seen all)
 all_added taken names start nets all i so_far end =
     sym (append-nil nets) ∙ (ap (λ (cs : List Candidate). nets ++ spec.new_wires so_far.listed (candidates_seen cs)) (sym (drop_all i all end)) ∙ so_far.same)

@@ -1,6 +1,6 @@
 -- The reader's parts of a module and names of its header, as the definitions have them. This project's own words.
-use Rattle.std.specs.Prelude.{◌≡◌, ℕ, List, String, is_some}
-use Rattle.std.specs.BTreeMap.{BTreeMap, get_by_text}
+use Rattle.std.specs.Prelude.{◌≡◌, ℕ, List, String}
+use Rattle.indexmap.specs.IndexSet.{IndexSet, contains_text}
 use Rattle.sdc_model.specs.VerilogKinds as grammar
 use Rattle.verilog_net.specs.declared.contexts.Part.{Part}
 use Rattle.verilog_net.specs.declared.contexts.Part.TheVariants.{Naming, Header, Statement, Declaring}
@@ -11,6 +11,6 @@ part_seen Header = grammar.header
 part_seen Statement = grammar.statement
 part_seen Declaring = grammar.declaring
 
--- the map has these names
-abbrev pub HasNames : {A V : Type 0} → BTreeMap (String A) V → List (List ℕ) → Type 0
-HasNames names listed = (name : List ℕ) → is_some (get_by_text names name) ≡ grammar.is_among listed name
+-- the set has these names
+abbrev pub HasNames : {A S : Type 0} → IndexSet (String A) S → List (List ℕ) → Type 0
+HasNames names listed = (name : List ℕ) → contains_text names name ≡ grammar.is_among listed name

@@ -1,8 +1,8 @@
 -- The reader's faults, as the definitions have them. This project's own.
 use Rattle.std.specs.Prelude.{◌≡◌, ◌||◌, ℕ, Bool, true, false, not, List, [], ◌∷◌, map, Option, Some, None, String}
-use Rattle.std.specs.BTreeMap.{BTreeMap, get_by_text}
 use Rattle.std.specs.List.{filter}
 use Rattle.std.specs.Option.{option_map}
+use Rattle.indexmap.specs.IndexMap.{IndexMap, get_by_text}
 use Rattle.sdc_model.specs.Verilog as spec
 use Rattle.sdc_model.specs.VerilogNets.{is_of}
 use Rattle.sdc_model.specs.VerilogSyntax as syntax
@@ -46,5 +46,5 @@ is_second_of None d = false
 is_second_of (Some known) d = known.1 || not (spec.are_one known.0 d)
 
 -- the map has what is known of the declarations of each name
-abbrev pub HasEarlier : {A : Type 0} → BTreeMap (String A) Earlier → List syntax.Declared → Type 0
+abbrev pub HasEarlier : {A S : Type 0} → IndexMap (String A) Earlier S → List syntax.Declared → Type 0
 HasEarlier known before = (name : List ℕ) → option_map earlier_seen (get_by_text known name) ≡ earlier_of (filter (is_of name) before)

@@ -1,7 +1,7 @@
 -- The reader's declarations of a module, each found by its name. This project's own.
 use Rattle.std.specs.Prelude.{◌≡◌, ◌&&◌, ℕ, List, [], ◌∷◌, Option, Some, None, String, map, not, if◌then◌else◌}
-use Rattle.std.specs.BTreeMap.{BTreeMap, get_by_text}
 use Rattle.std.specs.Option.{option_map}
+use Rattle.indexmap.specs.IndexMap.{IndexMap, get_by_text}
 use Rattle.sdc_model.specs.Ranges.{span, width}
 use Rattle.sdc_model.specs.VerilogConstants.{number_of}
 use Rattle.sdc_model.specs.VerilogNets.{declaration_of, is_of, is_port, range_named}
@@ -19,7 +19,7 @@ abbrev pub declarations_of : Names → List grammar.Declared
 declarations_of names = declareds_seen names.declared.items
 
 -- the declaration that is kept of a name
-abbrev pub entry_seen : {A : Type 0} → BTreeMap (String A) Declared → List ℕ → Option grammar.Declared
+abbrev pub entry_seen : {A S : Type 0} → IndexMap (String A) Declared S → List ℕ → Option grammar.Declared
 entry_seen entries name = option_map declared_seen (get_by_text entries name)
 
 -- each name has the declaration that gives it its range

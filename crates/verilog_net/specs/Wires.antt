@@ -1,6 +1,6 @@
 -- The reader's nets before their names are compared, as the definitions have them. This project's own.
 use Rattle.std.specs.Prelude.{◌≡◌, ◌++◌, ◌∷◌, [], ℕ, List, String, map, if◌then◌else◌}
-use Rattle.std.specs.BTreeMap.{BTreeMap}
+use Rattle.indexmap.specs.IndexSet.{IndexSet}
 use Rattle.source_types.specs.declared.netlists.Wire.{Wire}
 use Rattle.sdc_model.specs.VerilogKinds.{is_among}
 use Rattle.sdc_model.specs.VerilogNets.{new_wires}
@@ -23,6 +23,6 @@ abbrev pub taken_behind : List (List ℕ) → Wire → List (List ℕ)
 taken_behind names net = if is_among names net.name then names else net.name ∷ names
 
 -- a net is added unless its name is taken, and then it is
-pub record AddsWire {A V : Type 0} (taken : BTreeMap (String A) V) (names : List (List ℕ)) (net : Wire) (old new : List Wire) : Type 0 where
+pub record AddsWire {A S : Type 0} (taken : IndexSet (String A) S) (names : List (List ℕ)) (net : Wire) (old new : List Wire) : Type 0 where
   pub nets : new ≡ old ++ new_wires names (net ∷ [])
   pub names_are : HasNames taken (taken_behind names net)

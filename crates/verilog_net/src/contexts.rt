@@ -5,12 +5,11 @@ ghost use Rattle.sdc_model.specs.VerilogKinds as grammar;
 ghost use Rattle.verilog_net.specs.Contexts.{HasNames, part_seen};
 ghost use Rattle.verilog_net.specs.Seen.{tokens_seen};
 
-use crate::name_sets::{add_name, has_name};
+use crate::name_sets::{NameSet, add_name, has_name, no_names};
 use crate::tokens::Token;
 use sdc_base::NoMemory;
 use sdc_model::VerilogToken;
 use std::alloc::Global;
-use std::collections::BTreeMap;
 
 /// The part of a module that a token stands in.
 #[derive(Clone, Copy, Debug)]
@@ -77,12 +76,7 @@ fn part_behind(part: Part, kind: VerilogToken) -> Part
 }
 
 /// The names of a header behind one more name, where it stands there. The one error is want of memory.
-fn listed_name(
-    alloc: Global,
-    names: &mut BTreeMap<String, ()>,
-    part: Part,
-    name: &str,
-) -> Result<(), NoMemory>
+fn listed_name(alloc: Global, names: &mut NameSet, part: Part, name: &str) -> Result<(), NoMemory>
     ensures { OnOk result ((listed : List (List ℕ)) → HasNames names.old listed → HasNames names.new (grammar.with_name (part_seen part) listed name.now)) }
 {
     match part {
@@ -93,17 +87,12 @@ fn listed_name(
     }
 }
 
-/// Takes all names away.
-fn clear(names: &mut BTreeMap<String, ()>)
-    ensures { HasNames names.new [] }
-{
-    names.clear();
-}
-
 /// The names of a header behind a kind of token with its text. The one error is want of memory.
+///
+/// A new set begins with each module: emptying one takes as long as it was ever large.
 fn names_behind(
     alloc: Global,
-    names: &mut BTreeMap<String, ()>,
+    names: &mut NameSet,
     part: Part,
     text: &str,
     kind: VerilogToken,
@@ -112,7 +101,7 @@ fn names_behind(
 {
     match kind {
         VerilogToken::Module => {
-            clear(names);
+            *names = no_names(alloc);
             Ok(())
         }
         VerilogToken::Name => listed_name(alloc, names, part, text),
@@ -134,7 +123,7 @@ fn braces_behind(braces: usize, kind: VerilogToken) -> usize
 }
 
 /// The kind of a name: in a declaration of ports, whether the header lists it.
-fn name_kind(part: Part, names: &BTreeMap<String, ()>, name: &str) -> VerilogToken
+fn name_kind(part: Part, names: &NameSet, name: &str) -> VerilogToken
     ensures { (listed : List (List ℕ)) → HasNames names.now listed → result ≡ grammar.name_kind (part_seen part) listed name.now }
 {
     match part {
@@ -146,7 +135,7 @@ fn name_kind(part: Part, names: &BTreeMap<String, ()>, name: &str) -> VerilogTok
 }
 
 /// The kind of a name in a declaration of ports.
-fn declared_kind(names: &BTreeMap<String, ()>, name: &str) -> VerilogToken
+fn declared_kind(names: &NameSet, name: &str) -> VerilogToken
     ensures { (listed : List (List ℕ)) → HasNames names.now listed → result ≡ grammar.name_kind grammar.declaring listed name.now }
 {
     if has_name(names, name) {
@@ -170,7 +159,7 @@ fn brace_kind(braces: usize) -> VerilogToken
 /// A kind of token with its text, by what stands before it.
 fn kind_in(
     part: Part,
-    names: &BTreeMap<String, ()>,
+    names: &NameSet,
     braces: usize,
     text: &str,
     kind: VerilogToken,
@@ -191,7 +180,7 @@ pub fn kinds_of(alloc: Global, tokens: &[Token<'_>]) -> Result<Vec<VerilogToken>
 {
     let mut kinds = Vec::new(alloc);
     let mut part = Part::Statement;
-    let mut names = BTreeMap::new(alloc);
+    let mut names = no_names(alloc);
     let mut braces = 0;
     for token in tokens.iter() {
         kinds.push(kind_in(part, &names, braces, token.text, token.kind))?;

@@ -1,8 +1,7 @@
 //! What stands between tokens: blanks, comments, attributes and directive lines.
 
-ghost use Rattle.std.specs.Prelude.{◌≡◌, ◌≤◌, ◌<◌, drop, length, take, ◌-◌, slice_index, min, ◌+◌, ◌==◌, IfSome, Some, if◌then◌else◌};
+ghost use Rattle.std.specs.Prelude.{◌≡◌, ◌≤◌, ◌<◌, drop, length, slice_index, ◌+◌, ◌==◌, IfSome, Some, if◌then◌else◌};
 ghost use Rattle.std.specs.Option.{option_map};
-ghost use Rattle.sdc_model.specs.Bytes.{last_line, line_after};
 ghost use Rattle.sdc_model.specs.VerilogTokens as grammar;
 ghost use Rattle.verilog_net.specs.Seen.{gap_seen, rest_seen};
 
@@ -134,30 +133,4 @@ pub fn gap_end(bytes: &[u8], from: usize) -> Option<usize>
         at += 1;
     }
     ended(gap, at)
-}
-
-/// The line behind a byte on a line.
-fn line_behind(byte: u8, line: u32) -> u32
-    ensures { result ≡ (if byte == 10 then min (line + 1) last_line else line) }
-{
-    if byte == b'\n' {
-        return line.saturating_add(1);
-    }
-    line
-}
-
-/// The line at a place, counted from another one and its line.
-#[tactic(auto, using(crate::proofs::LineFacts::line_more))]
-pub fn line_at(bytes: &[u8], from: usize, to: usize, first: u32) -> u32
-    requires forward { from ≤ to }
-    requires within { to ≤ length bytes.now }
-    ensures { result ≡ line_after (take (to - from) (drop from bytes.now)) first }
-{
-    let mut at = from;
-    let mut line = first;
-    while at < to {
-        line = line_behind(bytes[at], line);
-        at += 1;
-    }
-    line
 }

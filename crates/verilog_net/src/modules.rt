@@ -2,81 +2,60 @@
 //!
 //! Each function here has want of memory as its one error.
 
-ghost use Rattle.std.specs.Prelude.{◌≡◌, ◌++◌, All, IfOk, OnOk};
-ghost use Rattle.std.specs.List.{AllByRecursion, flat_map};
+ghost use Rattle.std.specs.Prelude.{◌≡◌, ◌++◌, [], All, IfOk, OnOk, if◌then◌else◌};
+ghost use Rattle.std.specs.List.{AllByRecursion, before_first};
+ghost use Rattle.source_types.specs.declared.verilog_tokens.VerilogToken.TheVariants as kind;
 ghost use Rattle.sdc_model.specs.VerilogStatements as grammar;
+ghost use Rattle.sdc_model.specs.VerilogSyntax as syntax;
 ghost use Rattle.verilog_net.specs.Names.{IsNamed, named_modules};
-ghost use Rattle.verilog_net.specs.Seen.{tokens_seen};
-ghost use Rattle.verilog_net.specs.Syntax.{parts_seen};
+ghost use Rattle.verilog_net.specs.Seen.{token_seen, tokens_seen};
 
+use crate::declarations::is;
 use crate::names::{Named, names_of};
-use crate::parts::cut;
+use crate::parts::{before, cut};
 use crate::tokens::Token;
 use crate::written::module_behind;
 use sdc_base::NoMemory;
 use sdc_model::VerilogToken;
 use std::alloc::Global;
 
-/// Adds the module of some tokens, given what semicolons part.
-#[tactic(auto, using(crate::proofs::TableFacts::one_named))]
-fn add_parts<'a>(
-    alloc: Global,
-    parts: &[&'a [Token<'a>]],
-    tokens: &'a [Token<'a>],
-    found: &mut Vec<Named<'a>>,
-) -> Result<(), NoMemory>
-    ensures modules { OnOk result (named_modules found.new.items ≡ named_modules found.old.items ++ grammar.written_by (parts_seen parts.now) (tokens_seen tokens.now)) }
-    ensures named { OnOk result (AllByRecursion IsNamed found.old.items → AllByRecursion IsNamed found.new.items) }
-{
-    let [front, statements @ ..] = parts else {
-        return Ok(());
-    };
-    match front {
-        [name, header @ ..] => {
-            let written = module_behind(alloc, name, header, statements, tokens)?;
-            let names = names_of(alloc, &written)?;
-            found.push(Named { written, names })?;
-            Ok(())
-        }
-        [] => Ok(()),
-    }
-}
-
-/// Adds the module of the tokens behind its keyword.
+/// Adds the module that a token begins with those behind it, if it is the keyword of one.
+#[tactic(auto, using(crate::proofs::ModuleFacts::one_named))]
 fn add_module<'a>(
     alloc: Global,
-    tokens: &'a [Token<'a>],
+    keyword: &Token<'a>,
+    rest: &'a [Token<'a>],
     found: &mut Vec<Named<'a>>,
 ) -> Result<(), NoMemory>
-    ensures modules { OnOk result (named_modules found.new.items ≡ named_modules found.old.items ++ grammar.module_of (tokens_seen tokens.now)) }
+    ensures modules { OnOk result (named_modules found.new.items ≡ named_modules found.old.items ++ (if syntax.is kind.Module (token_seen keyword.now) then grammar.module_of (before_first (syntax.is kind.Module) (tokens_seen rest.now)) else [])) }
     ensures named { OnOk result (AllByRecursion IsNamed found.old.items → AllByRecursion IsNamed found.new.items) }
 {
-    let parts = cut(alloc, VerilogToken::Semicolon, tokens)?;
-    add_parts(alloc, parts.as_slice(), tokens, found)
-}
-
-/// The modules of parts.
-#[tactic(auto, using(crate::proofs::TableFacts::none_named, crate::proofs::TableFacts::all_named))]
-fn modules_in<'a>(alloc: Global, parts: &[&'a [Token<'a>]]) -> Result<Vec<Named<'a>>, NoMemory>
-    ensures modules { IfOk result (λ found. named_modules found.items ≡ flat_map grammar.module_of (parts_seen parts.now)) }
-    ensures named { IfOk result (λ found. All IsNamed found.items) }
-{
-    let mut found = Vec::new(alloc);
-    for part in parts {
-        add_module(alloc, part, &mut found)?;
+    if !is(VerilogToken::Module, keyword) {
+        return Ok(());
     }
-    Ok(found)
+    let tokens = before(VerilogToken::Module, rest);
+    let parts = cut(alloc, VerilogToken::Semicolon, tokens)?;
+    let [front, statements @ ..] = parts.as_slice() else {
+        return Ok(());
+    };
+    let [name, header @ ..] = front else {
+        return Ok(());
+    };
+    let written = module_behind(alloc, name, header, statements, tokens)?;
+    let names = names_of(alloc, &written)?;
+    found.push(Named { written, names })?;
+    Ok(())
 }
 
 /// The modules of a netlist's tokens.
-#[tactic(auto, using(crate::proofs::SliceFacts::parts_behind))]
+#[tactic(auto, using(crate::proofs::ModuleFacts::none_named, crate::proofs::ModuleFacts::all_named, crate::proofs::ModuleFacts::modules_are))]
 pub fn modules_of<'a>(alloc: Global, tokens: &'a [Token<'a>]) -> Result<Vec<Named<'a>>, NoMemory>
     ensures modules { IfOk result (λ found. named_modules found.items ≡ grammar.modules_of (tokens_seen tokens.now)) }
     ensures named { IfOk result (λ found. All IsNamed found.items) }
 {
-    let parts = cut(alloc, VerilogToken::Module, tokens)?;
-    match parts.as_slice() {
-        [_, modules @ ..] => modules_in(alloc, modules),
-        [] => modules_in(alloc, &[]),
+    let mut found = Vec::new(alloc);
+    for (at, token) in tokens.iter().enumerate() {
+        add_module(alloc, token, &tokens[at + 1..], &mut found)?;
     }
+    Ok(found)
 }

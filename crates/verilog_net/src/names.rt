@@ -1,9 +1,9 @@
 //! The declarations of a module, each name's found by it.
 
 ghost use Rattle.std.specs.Prelude.{◌≡◌, List, ℕ, None, IfOk, OnOk};
-ghost use Rattle.std.specs.BTreeMap.{get_by_text};
 ghost use Rattle.std.specs.List.{find};
 ghost use Rattle.std.specs.Option.{option_map};
+ghost use Rattle.indexmap.specs.IndexMap.{get_by_text};
 ghost use Rattle.sdc_model.specs.VerilogNets as nets;
 ghost use Rattle.sdc_model.specs.VerilogStatements.{declarations};
 ghost use Rattle.verilog_net.specs.Modules.{written_seen};
@@ -12,16 +12,16 @@ ghost use Rattle.verilog_net.specs.Syntax.{declared_seen, declareds_seen};
 
 use crate::declarations::{Declared, Role};
 use crate::written::{Written, declarations};
+use indexmap::IndexMap;
 use sdc_base::NoMemory;
 use sdc_model::Range;
 use std::alloc::Global;
-use std::collections::BTreeMap;
 
 /// All that a module declares, and of each name the declaration that gives it its range.
 #[derive(Drop)]
 pub struct Names<'a> {
     pub declared: Vec<Declared<'a>>,
-    pub entries: BTreeMap<String, Declared<'a>>,
+    pub entries: IndexMap<String, Declared<'a>>,
 }
 
 /// Whether a declaration is one of a port.
@@ -50,7 +50,7 @@ fn better<'a>(known: Option<Declared<'a>>, declared: &Declared<'a>) -> Declared<
 }
 
 /// The declaration that is known of a name.
-fn known_of<'a>(entries: &BTreeMap<String, Declared<'a>>, name: &str) -> Option<Declared<'a>>
+fn known_of<'a>(entries: &IndexMap<String, Declared<'a>>, name: &str) -> Option<Declared<'a>>
     ensures { result ≡ get_by_text entries.now name.now }
 {
     entries.get(name).copied()
@@ -59,7 +59,7 @@ fn known_of<'a>(entries: &BTreeMap<String, Declared<'a>>, name: &str) -> Option<
 /// Adds a declaration. The one error is want of memory.
 fn add_entry<'a>(
     alloc: Global,
-    entries: &mut BTreeMap<String, Declared<'a>>,
+    entries: &mut IndexMap<String, Declared<'a>>,
     declared: &Declared<'a>,
 ) -> Result<(), NoMemory>
     ensures { OnOk result ((name : List ℕ) → entry_seen entries.new name ≡ with_entry (declared_seen declared.now) name (entry_seen entries.old name)) }
@@ -72,17 +72,17 @@ fn add_entry<'a>(
 }
 
 /// No declarations.
-fn no_entries<'a>(alloc: Global) -> BTreeMap<String, Declared<'a>>
+fn no_entries<'a>(alloc: Global) -> IndexMap<String, Declared<'a>>
     ensures { (name : List ℕ) → get_by_text result name ≡ None }
 {
-    BTreeMap::new(alloc)
+    IndexMap::new(alloc)
 }
 
 /// Adds declarations. The one error is want of memory.
 #[tactic(auto, using(crate::proofs::TableFacts::one_entry, crate::proofs::TableFacts::all_entries))]
 fn add_entries<'a>(
     alloc: Global,
-    entries: &mut BTreeMap<String, Declared<'a>>,
+    entries: &mut IndexMap<String, Declared<'a>>,
     declared: &[Declared<'a>],
 ) -> Result<(), NoMemory>
     ensures { OnOk result ((name : List ℕ) → entry_seen entries.new name ≡ with_entries (declareds_seen declared.now) name (entry_seen entries.old name)) }

@@ -1,16 +1,13 @@
 //! The bytes of a netlist as tokens, or the fault of bytes that are none.
 
-ghost use Rattle.std.specs.Prelude.{◌≡◌};
-ghost use Rattle.std.specs.Str.Lossy.{utf8_valid_len};
-ghost use Rattle.sdc_model.specs.LastLine.{broken_text_line};
 ghost use Rattle.verilog_net.specs.Recognition.{Recognises};
 
-use crate::gaps::line_at;
 use crate::recognition::broken_line;
 use crate::tokens::{Token, tokens_of};
 use sdc_base::{At, Stop};
 use sdc_model::VerilogKind;
 use std::alloc::Global;
+use text_lines::no_text_line;
 
 /// The tokens of a file's bytes, where they are a netlist of the grammar (IEEE 1364-2005, in the part that is read
 /// here).
@@ -30,15 +27,6 @@ pub fn netlist_tokens(alloc: Global, bytes: &[u8]) -> Result<Vec<Token<'_>>, Sto
             Err(Stop::Refused(At { line, kind }))
         }
     }
-}
-
-/// The line of the first byte that is no UTF-8, given the number of those before it.
-#[tactic(auto, using(crate::proofs::BreakFacts::valid_within))]
-fn no_text_line(bytes: &[u8], valid: usize) -> u32
-    requires { valid ≡ utf8_valid_len bytes.now }
-    ensures { result ≡ broken_text_line bytes.now }
-{
-    line_at(bytes, 0, valid, 1)
 }
 
 /// The tokens of a text, refused as `netlist_tokens` refuses bytes that are one.

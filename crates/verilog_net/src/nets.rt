@@ -21,10 +21,10 @@ use crate::names::Names;
 use crate::pieces::Piece;
 use crate::statements::add_pieces_in;
 use crate::tokens::Token;
+use indexmap::IndexSet;
 use sdc_base::{Duplicate, List, NoMemory, Text};
 use sdc_model::{Port, Range, VerilogToken, Wire};
 use std::alloc::Global;
-use std::collections::BTreeMap;
 
 /// A net that is declared or used, by its name.
 #[derive(Clone, Copy, Debug)]
@@ -191,7 +191,7 @@ fn all_nets<'a>(
 fn name_set(alloc: Global, names: &[Token<'_>]) -> Result<NameSet, NoMemory>
     ensures { IfOk result (λ set. HasNames set (texts (tokens_seen names.now))) }
 {
-    let mut set = BTreeMap::new(alloc);
+    let mut set = IndexSet::new(alloc);
     for name in names {
         add_name(alloc, &mut set, name.text)?;
     }

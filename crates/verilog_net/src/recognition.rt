@@ -1,18 +1,17 @@
 //! Whether tokens are a netlist, and else on which line they break.
 
 ghost use Rattle.std.specs.Prelude.{◌≡◌, IfOk, slice_get};
-ghost use Rattle.sdc_model.specs.LastLine.{last_line_of};
 ghost use Rattle.sdc_model.specs.Verilog.{line_of};
 ghost use Rattle.verilog_net.specs.Recognition.{BreaksOn};
 ghost use Rattle.verilog_net.specs.Seen.{tokens_seen};
 
 use crate::contexts::kinds_of;
-use crate::gaps::line_at;
 use crate::grammar::Netlists;
 use crate::tokens::Token;
 use sdc_base::NoMemory;
 use sdc_model::VerilogSymbol;
 use std::alloc::Global;
+use text_lines::last_line;
 use token_grammar::{Break, first_break};
 
 /// The line of the token at a place, and 1 where none stands there.
@@ -26,13 +25,6 @@ fn token_line(tokens: &[Token<'_>], place: usize) -> u32
     }
 }
 
-/// The line of the last byte of a text.
-fn last_line(text: &str) -> u32
-    ensures { result ≡ last_line_of text.now 1 }
-{
-    line_at(text.as_bytes(), 0, text.len().saturating_sub(1), 1)
-}
-
 /// The line on which the tokens of a text break, or `None` where they are a netlist: that of the first token that no
 /// netlist has behind those before it, or of the last byte where the text ends too early. The one error is want of
 /// memory.
@@ -44,6 +36,6 @@ pub fn broken_line(alloc: Global, text: &str, tokens: &[Token<'_>]) -> Result<Op
     match first_break::<Netlists>(alloc, VerilogSymbol::Source, kinds.as_slice())? {
         None => Ok(None),
         Some(Break::Token(place)) => Ok(Some(token_line(tokens, place))),
-        Some(Break::End) => Ok(Some(last_line(text))),
+        Some(Break::End) => Ok(Some(last_line(text.as_bytes()))),
     }
 }

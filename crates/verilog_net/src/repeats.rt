@@ -3,9 +3,9 @@
 //! Each function here that may fail has want of memory as its one error.
 
 ghost use Rattle.std.specs.Prelude.{◌≡◌, ◌++◌, ◌∷◌, ◌&&◌, ◌||◌, [], List, ℕ, IfOk, OnOk, if◌then◌else◌};
-ghost use Rattle.std.specs.BTreeMap.{get_by_text};
 ghost use Rattle.std.specs.List.{filter};
 ghost use Rattle.std.specs.Option.{option_map};
+ghost use Rattle.indexmap.specs.IndexMap.{get_by_text};
 ghost use Rattle.sdc_model.specs.Ranges as ranges;
 ghost use Rattle.sdc_model.specs.Verilog as spec;
 ghost use Rattle.sdc_model.specs.VerilogKinds.{is_among};
@@ -20,10 +20,10 @@ use crate::declarations::{Declared, Role};
 use crate::name_sets::{NameSet, add_name, has_name};
 use crate::names::is_port;
 use crate::tokens::Token;
+use indexmap::{IndexMap, IndexSet};
 use sdc_base::NoMemory;
 use sdc_model::Range;
 use std::alloc::Global;
-use std::collections::BTreeMap;
 
 /// Adds a name, if it is in a set.
 fn add_repeated<'a>(
@@ -45,7 +45,7 @@ fn add_repeated<'a>(
 pub fn repeated<'a>(alloc: Global, names: &[Token<'a>]) -> Result<Vec<Token<'a>>, NoMemory>
     ensures { IfOk result (λ found. tokens_seen found.items ≡ spec.repeated [] (tokens_seen names.now)) }
 {
-    let mut before = BTreeMap::new(alloc);
+    let mut before = IndexSet::new(alloc);
     let mut found = Vec::new(alloc);
     for name in names {
         add_repeated(&before, name, &mut found)?;
@@ -148,7 +148,7 @@ fn one_later<'a>(known: Option<Earlier<'a>>, declared: &Declared<'a>) -> Earlier
 }
 
 /// What is known of a name.
-fn known_of<'a>(known: &BTreeMap<String, Earlier<'a>>, name: &str) -> Option<Earlier<'a>>
+fn known_of<'a>(known: &IndexMap<String, Earlier<'a>>, name: &str) -> Option<Earlier<'a>>
     ensures { result ≡ get_by_text known.now name.now }
 {
     known.get(name).copied()
@@ -167,7 +167,7 @@ fn add_if<'a>(holds: bool, name: &Token<'a>, found: &mut Vec<Token<'a>>) -> Resu
 
 /// Adds the name of a declaration, if it is a second one.
 fn add_second<'a>(
-    known: &BTreeMap<String, Earlier<'a>>,
+    known: &IndexMap<String, Earlier<'a>>,
     declared: &Declared<'a>,
     found: &mut Vec<Token<'a>>,
 ) -> Result<(), NoMemory>
@@ -182,7 +182,7 @@ fn add_second<'a>(
 /// Adds a declaration to what is known.
 fn add_known<'a>(
     alloc: Global,
-    known: &mut BTreeMap<String, Earlier<'a>>,
+    known: &mut IndexMap<String, Earlier<'a>>,
     declared: &Declared<'a>,
 ) -> Result<(), NoMemory>
     ensures { OnOk result ((before : List syntax.Declared) → HasEarlier known.old before → HasEarlier known.new (before ++ declared_seen declared.now ∷ [])) }
@@ -199,7 +199,7 @@ fn add_known<'a>(
 pub fn seconds<'a>(alloc: Global, declared: &[Declared<'a>]) -> Result<Vec<Token<'a>>, NoMemory>
     ensures { IfOk result (λ found. tokens_seen found.items ≡ spec.seconds [] (declareds_seen declared.now)) }
 {
-    let mut known = BTreeMap::new(alloc);
+    let mut known = IndexMap::new(alloc);
     let mut found = Vec::new(alloc);
     for one in declared {
         add_second(&known, one, &mut found)?;

@@ -4,11 +4,12 @@ ghost use Rattle.std.specs.Prelude.{◌≡◌, ◌<◌, ◌≤◌, Some, drop, l
 ghost use Rattle.sdc_model.specs.VerilogTokens as grammar;
 ghost use Rattle.verilog_net.specs.Seen.{front_seen, place_seen, tokens_seen};
 
-use crate::gaps::{gap_end, line_at};
+use crate::gaps::gap_end;
 use crate::lexed::token_behind;
 use sdc_base::NoMemory;
 use sdc_model::VerilogToken;
 use std::alloc::Global;
+use text_lines::line_at;
 
 /// A token: the place of its first byte, its line, counted from 1, its kind, and its text: of an escaped name without
 /// the backslash, of a base its letter.

@@ -1,0 +1,28 @@
+//! What bytes are refused as, for tests.
+
+use crate::read::read_verilog;
+use sdc_base::{At, Stop};
+use sdc_model::VerilogKind;
+use std::alloc::Global;
+use std::process::Abort;
+
+/// Sees that bytes are refused on a line with a fault, or taken where the line is 0.
+pub fn refused(rt: &impl Abort, alloc: Global, bytes: &[u8], line: u32, kind: VerilogKind) {
+    let found = match read_verilog(alloc, bytes) {
+        Ok(_) => At { line: 0, kind },
+        Err(Stop::Refused(fault)) => fault,
+        Err(Stop::NoMemory) => At {
+            line: u32::MAX,
+            kind,
+        },
+    };
+    assert!(rt;
+        found.line == line && found.kind == kind,
+        "{bytes:?}: {found:?}"
+    );
+}
+
+/// Sees that a text is refused on a line with a fault, or taken where the line is 0.
+pub fn refused_text(rt: &impl Abort, alloc: Global, text: &str, line: u32, kind: VerilogKind) {
+    refused(rt, alloc, text.as_bytes(), line, kind);
+}
