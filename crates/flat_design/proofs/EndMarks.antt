@@ -1,0 +1,154 @@
+-- Marks of nets, and what they tell once all nets are done.
+use Rattle.std.proofs.Common.{◌≡◌, ◌+◌, ◌<◌, ◌≤◌, ◌⊎◌, inl, inr, ℕ, zero, suc, Bool, true, false, List, [], ◌∷◌, get_or, length, map, replicate, set, slice_get, Some, None, refl, sym, ◌∙◌, ap, subst, arith}
+use Rattle.std.proofs.lemmas.Bool.{false≢true, true≢false, cases_eq, cases_lt}
+use Rattle.std.proofs.lemmas.List.{get_or-set_same, get_or-set_other, length-replicate}
+use Rattle.timing_types.specs.declared.designs.Source.{Source}
+use Rattle.flat_design.specs.declared.ends.Mark.{Mark}
+use Rattle.flat_design.specs.declared.ends.Mark.TheVariants as mark
+use Rattle.flat_design.specs.declared.feeds.FeedRow.{FeedRow}
+use Rattle.flat_design.specs.SourceTable.{AreNetRows}
+use Rattle.flat_design.specs.Ends.{AreSettled, HaveEnds, IsSettled, WalksFrom, end_of, is_done, is_open, mark_of}
+use Rattle.flat_design.proofs.EndFacts.{fed_past, none_returns}
+
+-- ---- marks
+
+pub same_mark : (marks : List Mark) (i : ℕ) (mk : Mark) → i < length marks → mark_of (set marks i mk) i ≡ mk
+same_mark marks i mk h = get_or-set_same marks i mk mark.New h
+
+pub other_mark : (marks : List Mark) (i j : ℕ) (mk : Mark) → (i ≡ j → ⊥) → mark_of (set marks i mk) j ≡ mark_of marks j
+other_mark marks i j mk apart = get_or-set_other marks i j mk mark.New (λ e. apart (sym e))
+
+-- what is marked so is marked so where the net was marked, or was so before
+pub marked_as : (marks : List Mark) (i : ℕ) (mk : Mark) → i < length marks → (P : Mark → Type 0) (j : ℕ) → P (mark_of (set marks i mk) j)
+    → ((i ≡ j) × P mk) ⊎ ((i ≡ j → ⊥) × P (mark_of marks j))
+marked_as marks i mk inside P j is =
+    elim (cases_eq i j) [
+      | inl same ↦ inl (same, subst P (subst (λ (n : ℕ). mark_of (set marks i mk) n ≡ mk) same (same_mark marks i mk inside)) is)
+      | inr apart ↦ inr (apart, subst P (other_mark marks i j mk apart) is)
+    ]
+
+-- and a property of marks goes over to the new ones
+pub marks_as : (marks : List Mark) (i : ℕ) (mk : Mark) → i < length marks → (P : ℕ → Mark → Type 0) → P i mk
+    → (j : ℕ) → ((i ≡ j → ⊥) → P j (mark_of marks j)) → P j (mark_of (set marks i mk) j)
+marks_as marks i mk inside P own j before =
+    elim (cases_eq i j) [
+      | inl same ↦
+          subst (λ (n : ℕ). P n (mark_of (set marks i mk) n)) same (subst (P i) (sym (same_mark marks i mk inside)) own)
+      | inr apart ↦ subst (P j) (sym (other_mark marks i j mk apart)) (before apart)
+    ]
+
+new_past : (marks : List Mark) (i : ℕ) → length marks ≤ i → mark_of marks i ≡ mark.New
+new_past [] i h = refl
+new_past (m ∷ marks) zero h = absurd (omega arith)
+new_past (m ∷ marks) (suc i) h = new_past marks i (omega arith)
+
+pub open_within : (marks : List Mark) (i : ℕ) → is_open (mark_of marks i) ≡ true → i < length marks
+open_within marks i h =
+    elim (cases_lt i (length marks)) [
+      | inl inside ↦ inside
+      | inr past ↦ absurd (false≢true (sym (ap is_open (new_past marks i past)) ∙ h))
+    ]
+
+all_new : (n i : ℕ) → mark_of (replicate n mark.New) i ≡ mark.New
+all_new zero i = refl
+all_new (suc n) zero = refl
+all_new (suc n) (suc i) = all_new n i
+
+abbrev pub weight : Mark → ℕ
+weight mark.New = 2
+weight mark.Open = 1
+weight (mark.Done end) = 0
+
+abbrev pub to_follow : List Mark → ℕ
+to_follow [] = 0
+to_follow (mk ∷ marks) = weight mk + to_follow marks
+
+pub weight_set : (marks : List Mark) (i : ℕ) (mk : Mark) → i < length marks → to_follow (set marks i mk) + weight (mark_of marks i) ≡ to_follow marks + weight mk
+weight_set [] i mk h = absurd (omega arith)
+weight_set (x ∷ xs) zero mk h = omega arith
+weight_set (x ∷ xs) (suc i) mk h = let e = weight_set xs i mk (omega arith) in omega (arith, e)
+
+pub open_weight : (mk : Mark) → is_open mk ≡ true → weight mk ≡ 1
+open_weight mark.New h = absurd (false≢true h)
+open_weight mark.Open h = refl
+open_weight (mark.Done end) h = absurd (false≢true h)
+
+-- ---- all nets
+
+mark_default : (marks : List Mark) (i : ℕ) (d e : Mark) → i < length marks → get_or marks i d ≡ get_or marks i e
+mark_default [] i d e inside = absurd (omega arith)
+mark_default (mk ∷ marks) zero d e inside = refl
+mark_default (mk ∷ marks) (suc i) d e inside = mark_default marks i d e (omega arith)
+
+pub mark_here : (marks : List Mark) (net : ℕ) (mk : Mark) → net < length marks → mk ≡ get_or marks net mk → mark_of marks net ≡ mk
+mark_here marks net mk inside is = mark_default marks net mark.New mk inside ∙ sym is
+
+known_as : (mk : Mark) → is_open mk ≡ false → (mk ≡ mark.New → ⊥) → is_done mk ≡ true
+known_as mark.New quiet apart = absurd (apart refl)
+known_as mark.Open quiet apart = absurd (true≢false quiet)
+known_as (mark.Done end) quiet apart = refl
+
+pub known_done : (rows : List FeedRow) (nets : ℕ) (marks : List Mark) (net : ℕ) (mk : Mark) → AreSettled rows nets marks → net < nets
+    → mk ≡ get_or marks net mk → (mk ≡ mark.New → ⊥) → WalksFrom rows nets net marks marks true
+known_done rows nets marks net mk settled inside is apart =
+    let here : mark_of marks net ≡ mk = mark_here marks net mk (omega (arith, inside, settled.count)) is in
+    (settled, λ m h. h, known_as (mark_of marks net) (settled.quiet net) (λ e. apart (sym here ∙ e)))
+
+-- one net more is done
+same_place : (net k n : ℕ) → n ≡ net + 1 → k < n → net ≤ k → net ≡ k
+same_place net k n is low last = omega arith
+
+pub done_more : (rows : List FeedRow) (nets net n : ℕ) (old new : List Mark) → n ≡ net + 1 → WalksFrom rows nets net old new true
+    → ((k : ℕ) → k < net → is_done (mark_of old k) ≡ true) → (k : ℕ) → k < n → is_done (mark_of new k) ≡ true
+done_more rows nets net n old new is walks done k low =
+    elim (cases_lt k net) [
+      | inl earlier ↦ walks.1 k (done k earlier)
+      | inr last ↦ subst (λ (m : ℕ). is_done (mark_of new m) ≡ true) (same_place net k n is low last) walks.2
+    ]
+
+pub walks_as : (rows : List FeedRow) (nets net : ℕ) (old new : List Mark) (answer wanted : Bool) → answer ≡ wanted → WalksFrom rows nets net old new answer
+    → WalksFrom rows nets net old new wanted
+walks_as rows nets net old new answer wanted is walks = subst (WalksFrom rows nets net old new) is walks
+
+new_not_done : (end : Source) → mark.New ≡ mark.Done end → ⊥
+new_not_done end is = cc
+
+pub settled_start : (rows : List FeedRow) (nets : ℕ) → AreSettled rows nets (replicate nets mark.New)
+settled_start rows nets = record {
+  count = length-replicate nets mark.New;
+  quiet = λ net. ap is_open (all_new nets net);
+  settled = λ net end is. absurd (new_not_done end (sym (all_new nets net) ∙ is));
+}
+
+done_end : (mk : Mark) → is_done mk ≡ true → mk ≡ mark.Done (end_of mk)
+done_end mark.New h = absurd (false≢true h)
+done_end mark.Open h = absurd (false≢true h)
+done_end (mark.Done end) h = refl
+
+map_at : (marks : List Mark) (net : ℕ) (end : Source) → slice_get (map end_of marks) net ≡ Some end
+    → (net < length marks) × (end ≡ end_of (mark_of marks net))
+map_at [] net end is = let bad : None ≡ Some end = is in cc
+map_at (mk ∷ marks) zero end is = let e : Some (end_of mk) ≡ Some end = is in (omega arith, cc)
+map_at (mk ∷ marks) (suc net) end is = let r = map_at marks net end is in (omega (arith, r.0), r.1)
+
+map_length : (marks : List Mark) → length (map end_of marks) ≡ length marks
+map_length [] = refl
+map_length (mk ∷ marks) = ap suc (map_length marks)
+
+pub have_ends : (rows : List FeedRow) (nets : ℕ) (marks : List Mark) (ends : List Source) → AreNetRows nets rows → AreSettled rows nets marks
+    → ((net : ℕ) → net < nets → is_done (mark_of marks net) ≡ true) → ends ≡ map end_of marks → HaveEnds rows nets ends
+have_ends rows nets marks ends within settled done same =
+    let own : (net : ℕ) → net < nets → IsSettled rows net (end_of (mark_of marks net)) =
+    λ net inside. settled.settled net (end_of (mark_of marks net)) (done_end (mark_of marks net) (done net inside)) in
+    record {
+      count = ap length same ∙ (map_length marks ∙ settled.count);
+      each = λ net end there.
+          let r = map_at marks net end (ap (λ (es : List Source). slice_get es net) (sym same) ∙ there) in
+          let inside : net < nets = omega (arith, r.0, settled.count) in
+          (subst (IsSettled rows net) (sym r.1) (own net inside)).0;
+      none = λ net.
+          elim (cases_lt net nets) [
+            | inl inside ↦ (own net inside).1
+            | inr past ↦ none_returns rows net (fed_past nets rows net within past)
+          ];
+    }

@@ -1,0 +1,117 @@
+-- The sources of a net, and what feeds it by its number: one for one, since a net has one number.
+use Rattle.std.proofs.Common.{◌≡◌, ◌&&◌, ℕ, Bool, true, false, true≢false, cond, Decides, List, [], ◌∷◌, filter, length, map, nat_eq, slice_get, Option, Some, None, refl, sym, ◌∙◌, ap, subst, eqb-true, eq-eqb}
+use Rattle.std.proofs.lemmas.Bool.Decides.{Decides-and, Decides-eqb, Decides-like, same_from_decides}
+use Rattle.std.proofs.lemmas.Option.{get_or_from_slice_get, slice_get-get_or, slice_get_within}
+use Rattle.std.proofs.lemmas.Slice.Eq.{bytes_eq-Decides}
+use Rattle.std.specs.List.{AllZip, Contains, flat_map}
+use Rattle.sdc_model.specs.FlatNets.{Feed, NetBit, Origin, bit_of, net_bit, nets_in, same_index, same_net, sources}
+use Rattle.sdc_model.specs.Words.{same_text}
+use Rattle.flat_design.specs.declared.feeds.FeedRow.{FeedRow}
+use Rattle.flat_design.specs.declared.feeds.Feeder.{Feeder}
+use Rattle.flat_design.specs.declared.hierarchy.Hierarchy.{Hierarchy}
+use Rattle.flat_design.specs.Feeds.{IsFeed, IsFeeder}
+use Rattle.flat_design.specs.Hierarchy.{IsHierarchy, spots_in}
+use Rattle.flat_design.specs.NetNumbers.{IsNumber}
+use Rattle.flat_design.specs.Sources.{fed}
+use Rattle.flat_design.proofs.BitsApart.{number_once}
+use Rattle.flat_design.proofs.HierarchyFacts.{one_at}
+use Rattle.flat_design.proofs.TerminalFacts.{zip_at, zip_length}
+
+-- ---- nets are told apart by path, name and index
+
+no_index : (i : ℕ) → None ≡ Some i → ⊥
+no_index i bad = cc
+
+same_some : (i j : ℕ) → Some i ≡ Some j → i ≡ j
+same_some i j e = cc
+
+index_decides : (a b : Option ℕ) → Decides (same_index a b) (a ≡ b)
+index_decides None None = (λ e. refl, λ e. refl)
+index_decides (Some i) (Some j) = (λ e. ap (λ (n : ℕ). Some n) (eqb-true i j e), λ e. eq-eqb i j (same_some i j e))
+index_decides None (Some j) = (λ e. absurd (true≢false (sym e)), λ e. absurd (no_index j e))
+index_decides (Some i) None = (λ e. absurd (true≢false (sym e)), λ e. absurd (no_index i (sym e)))
+
+one_net : (a b : NetBit) → a.path ≡ b.path → a.name ≡ b.name → a.index ≡ b.index → a ≡ b
+one_net a b path name index =
+    ap (λ (p : List ℕ). net_bit p a.name a.index) path ∙ (ap (λ (n : List ℕ). net_bit b.path n a.index) name ∙ ap (net_bit b.path b.name) index)
+
+net_decides : (a b : NetBit) → Decides (same_net a b) (a ≡ b)
+net_decides a b =
+    let inner = Decides-and (same_text a.name b.name) (same_index a.index b.index) (bytes_eq-Decides a.name b.name) (index_decides a.index b.index) in
+    let whole = Decides-and (same_text a.path b.path) (same_text a.name b.name && same_index a.index b.index) (bytes_eq-Decides a.path b.path) inner in (
+      λ e. let h = whole.0 e in one_net a b h.0 h.1.0 h.1.1,
+      λ e. whole.1 (ap (λ (n : NetBit). n.path) e, (ap (λ (n : NetBit). n.name) e, ap (λ (n : NetBit). n.index) e)),
+    )
+
+-- ---- and so by their numbers
+
+pub bit_once : (design : Hierarchy) (n : ℕ) (a b : NetBit) → IsNumber (spots_in design) n a → IsNumber (spots_in design) n b → a ≡ b
+bit_once design n a b at other = one_at (map bit_of (flat_map nets_in (spots_in design))) n a b at other
+
+pub numbered_once : (design : Hierarchy) (n m : ℕ) (bit : NetBit) → IsHierarchy design → IsNumber (spots_in design) n bit → IsNumber (spots_in design) m bit → n ≡ m
+numbered_once design n m bit is at other = number_once design.modules.now design.top.now is.distinct bit n m at other
+
+same_number : (design : Hierarchy) (n m : ℕ) (a b : NetBit) → IsHierarchy design → IsNumber (spots_in design) n a → IsNumber (spots_in design) m b
+    → same_net a b ≡ nat_eq n m
+same_number design n m a b is at other =
+    same_from_decides (same_net a b) (nat_eq n m) (net_decides a b)
+    (Decides-like (nat_eq n m) (λ e. bit_once design m a b (subst (λ (k : ℕ). IsNumber (spots_in design) k a) e at) other)
+    (λ e. numbered_once design n m b is (subst (IsNumber (spots_in design) n) e at) other) (Decides-eqb n m))
+
+-- ---- sources, one for one
+
+kept : (design : Hierarchy) (t : Bool) (one : Feed) (row : FeedRow) (feeds : List Feed) (rows : List FeedRow) → IsFeed design one row
+    → AllZip (IsFeeder design) (map (λ (f : Feed). f.from) feeds) (map (λ (r : FeedRow). r.from) rows)
+    → AllZip (IsFeeder design) (map (λ (f : Feed). f.from) (cond t (one ∷ feeds) feeds)) (map (λ (r : FeedRow). r.from) (cond t (row ∷ rows) rows))
+kept design true one row feeds rows is all = (is.origin, all)
+kept design false one row feeds rows is all = all
+
+pub sources_fed : (design : Hierarchy) (feeds : List Feed) (rows : List FeedRow) (n : ℕ) (bit : NetBit) → IsHierarchy design → AllZip (IsFeed design) feeds rows
+    → IsNumber (spots_in design) n bit → AllZip (IsFeeder design) (sources feeds bit) (fed rows n)
+sources_fed design [] [] n bit is all at = tt
+sources_fed design [] (row ∷ rows) n bit is all at = absurd all
+sources_fed design (one ∷ feeds) [] n bit is all at = absurd all
+sources_fed design (one ∷ feeds) (row ∷ rows) n bit is all at =
+    let front : List Feed = filter (λ (f : Feed). same_net f.to bit) feeds in
+    let behind : List FeedRow = filter (λ (r : FeedRow). nat_eq r.to n) rows in
+    let same : same_net one.to bit ≡ nat_eq row.to n = same_number design row.to n one.to bit is all.0.net at in
+    subst (λ (t : Bool). AllZip (IsFeeder design) (map (λ (f : Feed). f.from) (cond t (one ∷ front) front)) (fed (row ∷ rows) n)) (sym same)
+    (kept design (nat_eq row.to n) one row front behind all.0 (sources_fed design feeds rows n bit is all.1 at))
+
+pub sources_count : (design : Hierarchy) (feeds : List Feed) (rows : List FeedRow) (n : ℕ) (bit : NetBit) → IsHierarchy design → AllZip (IsFeed design) feeds rows
+    → IsNumber (spots_in design) n bit → length (sources feeds bit) ≡ length (fed rows n)
+sources_count design feeds rows n bit is all at =
+    zip_length (IsFeeder design) (sources feeds bit) (fed rows n) (sources_fed design feeds rows n bit is all at)
+
+-- ---- a source among those of a net
+
+zip_back : {A B : Type 0} (R : A → B → Type 0) (xs : List A) (ys : List B) → AllZip R xs ys → AllZip (λ y x. R x y) ys xs
+zip_back R [] [] all = tt
+zip_back R [] (y ∷ ys) all = absurd all
+zip_back R (x ∷ xs) [] all = absurd all
+zip_back R (x ∷ xs) (y ∷ ys) all = (all.0, zip_back R xs ys all.1)
+
+among : {X : Type 0} (xs : List X) (n : ℕ) (x : X) → slice_get xs n ≡ Some x → Contains xs x
+among xs n x at = (n, slice_get_within xs n x at, get_or_from_slice_get xs n x x at)
+
+place_of_one : {X : Type 0} (xs : List X) (x : X) → Contains xs x → (n : ℕ) × (slice_get xs n ≡ Some x)
+place_of_one xs x has = (has.0, slice_get-get_or xs has.0 x has.1 ∙ ap (λ y. Some y) has.2)
+
+-- each source is one by its number
+pub fed_there : (design : Hierarchy) (feeds : List Feed) (rows : List FeedRow) (n : ℕ) (bit : NetBit) (origin : Origin) → IsHierarchy design
+    → AllZip (IsFeed design) feeds rows → IsNumber (spots_in design) n bit → Contains (sources feeds bit) origin
+    → (own : Feeder) × Contains (fed rows n) own × IsFeeder design origin own
+fed_there design feeds rows n bit origin is all at has =
+    let here = place_of_one (sources feeds bit) origin has in
+    let found = zip_at (IsFeeder design) (sources feeds bit) (fed rows n) (sources_fed design feeds rows n bit is all at) here.0 origin here.1 in
+    (found.0, among (fed rows n) here.0 found.0 found.1, found.2)
+
+-- each one by number is a source
+pub source_there : (design : Hierarchy) (feeds : List Feed) (rows : List FeedRow) (n : ℕ) (bit : NetBit) (own : Feeder) → IsHierarchy design
+    → AllZip (IsFeed design) feeds rows → IsNumber (spots_in design) n bit → Contains (fed rows n) own
+    → (origin : Origin) × Contains (sources feeds bit) origin × IsFeeder design origin own
+source_there design feeds rows n bit own is all at has =
+    let here = place_of_one (fed rows n) own has in
+    let back = zip_back (IsFeeder design) (sources feeds bit) (fed rows n) (sources_fed design feeds rows n bit is all at) in
+    let found = zip_at (λ (f : Feeder) (o : Origin). IsFeeder design o f) (fed rows n) (sources feeds bit) back here.0 own here.1 in
+    (found.0, among (sources feeds bit) here.0 found.0 found.1, found.2)

@@ -1,0 +1,49 @@
+-- The pins of a design without their names, and what drives them. This project's own words.
+-- It reads: a list has, for each net by its number, what is found by following its sources; a row of a pin has all that
+-- a design says of the pin but its name.
+use Rattle.std.specs.Prelude.{◌≡◌, ◌++◌, ℕ, Bool, true, false, List, length, slice_get, Option, Some, None}
+use Rattle.std.specs.List.{AllZip}
+use Rattle.timing_types.specs.declared.designs.Source.{Source}
+use Rattle.timing_types.specs.declared.designs.Source.TheVariants as source
+use Rattle.sdc_model.specs.FlatDesign.{Flat, FlatPin, IsDriverOf, IsSourceOf, flat, pin_places}
+use Rattle.sdc_model.specs.FlatNets.{NetBit, Origin}
+use Rattle.flat_design.specs.declared.hierarchy.Hierarchy.{Hierarchy}
+use Rattle.flat_design.specs.declared.pin_rows.PinRow.{PinRow}
+use Rattle.flat_design.specs.Hierarchy.{spots_in}
+use Rattle.flat_design.specs.NetNumbers.{IsNumber}
+
+abbrev pub flat_of : Hierarchy → Flat
+flat_of design = flat design.modules.now design.library.now design.top.now
+
+-- ---- drivers
+
+-- the sources of nets by their numbers
+pub record AreEnds (design : Hierarchy) (ends : List Source) : Type 0 where
+  pub count : length ends ≡ design.layout.nets
+  pub each : (number : ℕ) (bit : NetBit) (end : Source) → IsNumber (spots_in design) number bit → slice_get ends number ≡ Some end
+      → IsSourceOf (pin_places (flat_of design)) (flat_of design).feeds bit end
+
+-- a load is driven by this
+pub record IsDriven (design : Hierarchy) (load : Option Origin) (driver : Source) : Type 0 where
+  pub is : IsDriverOf (flat_of design) load driver
+
+-- what a constant drives
+abbrev pub constant_driver : Option Bool → Source
+constant_driver None = source.Nothing
+constant_driver (Some false) = source.Zero
+constant_driver (Some true) = source.One
+
+-- ---- rows
+
+pub record IsPinRow (design : Hierarchy) (pin : FlatPin) (row : PinRow) : Type 0 where
+  pub role : row.role ≡ pin.role
+  pub cell : row.cell ≡ pin.cell
+  pub lib_pin : row.lib_pin ≡ pin.lib_pin
+  pub driver : IsDriven design pin.load row.driver
+
+-- rows of these things are added
+abbrev pub AddsRows : {A B : Type 0} → (A → B → Type 0) → List A → List B → List B → Type 0
+AddsRows {B} R things old new = (more : List B) × (new ≡ old ++ more) × AllZip R things more
+
+abbrev pub AddsPins : Hierarchy → List FlatPin → List PinRow → List PinRow → Type 0
+AddsPins design pins old new = AddsRows (IsPinRow design) pins old new

@@ -1,0 +1,54 @@
+//! The flat design of a hierarchy, or its first fault by names, sources and cells.
+
+ghost use Rattle.std.specs.Prelude.{◌≡◌, map};
+ghost use Rattle.std.specs.List.{flat_map};
+ghost use Rattle.sdc_base.specs.Gives.{Meets};
+ghost use Rattle.sdc_model.specs.FlatNets.{net_name, nets_in};
+ghost use Rattle.flat_design.specs.Building.{IsAssembled, IsBuilt};
+ghost use Rattle.flat_design.specs.Hierarchy.{IsHierarchy, prefix_in, spots_in};
+ghost use Rattle.flat_design.specs.PinRows.{AreEnds};
+
+use crate::cell_faults::check_cells;
+use crate::design::design_of;
+use crate::hierarchy::{Hierarchy, prefixes};
+use crate::net_ends::net_ends;
+use crate::object_names::{cell_names, net_names};
+use crate::pin_names::pin_names;
+use sdc_base::{At, List, Stop, Text};
+use sdc_model::{Design, DesignKind, Source};
+use std::alloc::Global;
+
+/// The flat design of a hierarchy, or the first fault of a net or a cell.
+pub(crate) fn build(alloc: Global, design: &Hierarchy<'_>) -> Result<Design, Stop<At<DesignKind>>>
+    requires { IsHierarchy design.now }
+    ensures { Meets result (IsBuilt design.now) }
+{
+    let prefixes = prefixes(alloc, design)?;
+    let names = net_names(alloc, design, prefixes.as_slice())?;
+    match net_ends(alloc, design, names.as_slice()) {
+        Err(stop) => Err(stop),
+        Ok(ends) => assemble(alloc, design, prefixes.as_slice(), names, ends.as_slice()),
+    }
+}
+
+/// The flat design of a hierarchy, or the first fault of a cell. Nets are given by their names and their sources.
+fn assemble(
+    alloc: Global,
+    design: &Hierarchy<'_>,
+    prefixes: &[Text],
+    net_names: List<Text>,
+    ends: &[Source],
+) -> Result<Design, Stop<At<DesignKind>>>
+    requires is { IsHierarchy design.now }
+    requires prefixes { prefixes.now ≡ map prefix_in (spots_in design.now) }
+    requires nets { net_names ≡ map net_name (flat_map nets_in (spots_in design.now)) }
+    requires ends { AreEnds design.now ends.now }
+    ensures { Meets result (IsAssembled design.now) }
+{
+    let cells = cell_names(alloc, design, prefixes)?;
+    let pins = pin_names(alloc, design, cells.as_slice())?;
+    match check_cells(alloc, design, cells.as_slice(), pins.as_slice()) {
+        Err(stop) => Err(stop),
+        Ok(()) => Ok(design_of(alloc, design, net_names, cells, pins, ends)?),
+    }
+}

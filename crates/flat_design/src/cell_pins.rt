@@ -1,0 +1,115 @@
+//! The pins of a design's cells, without their names.
+
+ghost use Rattle.std.specs.Prelude.{◌≡◌, ◌<◌, IfOk, OnOk, Some, length, slice_get};
+ghost use Rattle.std.specs.List.{All, AllZip, enumerate_from, flat_map};
+ghost use Rattle.source_types.specs.declared.library_cells.LibPin.{LibPin};
+ghost use Rattle.sdc_model.specs.Connections.{pins_of};
+ghost use Rattle.sdc_model.specs.FlatDesign.{cell_pin, cell_pins};
+ghost use Rattle.sdc_model.specs.Instances.{PlacedCell};
+ghost use Rattle.flat_design.specs.declared.layout.CellRow.{CellRow};
+ghost use Rattle.flat_design.specs.Connected.{shown};
+ghost use Rattle.flat_design.specs.Feeds.{HasBit};
+ghost use Rattle.flat_design.specs.Hierarchy.{IsHierarchy, cells_in};
+ghost use Rattle.flat_design.specs.NetNumbers.{IsNetTable};
+ghost use Rattle.flat_design.specs.PinRows.{AddsPins, AreEnds, IsPinRow};
+ghost use Rattle.flat_design.specs.Tables.{IsTerminals};
+
+use crate::cell_connections::{cell_links, connection_at};
+use crate::drivers::pin_driver;
+use crate::hierarchy::Hierarchy;
+use crate::items::item_at;
+use crate::net_numbers::NetTable;
+use crate::pin_names::kind_at;
+use crate::pin_rows::{PinRow, role_in_cell};
+use crate::terminals::Terminals;
+use sdc_base::{List, NoMemory};
+use sdc_model::{Bit, Source};
+use std::alloc::Global;
+
+/// The row of the pin at a place of the cell at a place, by its connection. Numbers that are too large for a design are
+/// want of memory.
+fn pin_row(
+    design: &Hierarchy<'_>,
+    tables: &[NetTable<'_>],
+    ends: &[Source],
+    cell: usize,
+    at: usize,
+    connection: Option<&List<Bit>>,
+) -> Result<PinRow, NoMemory>
+    requires is { IsHierarchy design.now }
+    requires tables { AllZip (λ m found. IsNetTable m.nets found) design.now.modules.now tables.now }
+    requires ends { AreEnds design.now ends.now }
+    requires cell { cell < length design.now.layout.cells }
+    requires pin { (found : PlacedCell) → slice_get (cells_in design.now) cell ≡ Some found → at < length found.kind.pins }
+    requires bits { (row : CellRow) → slice_get design.now.layout.cells cell ≡ Some row → All (HasBit design.now row.at.spot) (shown connection) }
+    ensures { (found : PlacedCell) (pin : LibPin) → slice_get (cells_in design.now) cell ≡ Some found
+        → slice_get found.kind.pins at ≡ Some pin
+        → IfOk result (IsPinRow design.now (cell_pin cell found ((at, pin), shown connection.entry))) }
+{
+    let row = item_at(design.layout.cells.as_slice(), cell);
+    let kind = kind_at(design, cell);
+    let pin = item_at(kind.pins.as_slice(), at);
+    let Ok(number) = u32::try_from(cell) else {
+        return Err(NoMemory);
+    };
+    let Ok(lib_pin) = u16::try_from(at) else {
+        return Err(NoMemory);
+    };
+    let role = role_in_cell(pin.direction);
+    let driver = pin_driver(design, tables, ends, row.at.spot, pin.direction, connection);
+    Ok(PinRow {
+        role,
+        cell: Some(number),
+        lib_pin,
+        driver,
+    })
+}
+
+/// Adds the pins of the cell at a place. Pins are given by tables of all library cells.
+fn add_cell_pins(
+    alloc: Global,
+    rows: &mut List<PinRow>,
+    design: &Hierarchy<'_>,
+    tables: &[NetTable<'_>],
+    ends: &[Source],
+    pins: &[Terminals<'_>],
+    cell: usize,
+) -> Result<(), NoMemory>
+    requires is { IsHierarchy design.now }
+    requires tables { AllZip (λ m found. IsNetTable m.nets found) design.now.modules.now tables.now }
+    requires ends { AreEnds design.now ends.now }
+    requires pins { AllZip (λ kind found. IsTerminals (pins_of kind) found) design.now.library.now.cells pins.now }
+    requires cell { cell < length design.now.layout.cells }
+    ensures { (found : PlacedCell) → slice_get (cells_in design.now) cell ≡ Some found
+        → OnOk result (AddsPins design.now (cell_pins (cell, found)) rows.old rows.new) }
+{
+    let kind = kind_at(design, cell);
+    let links = cell_links(alloc, design, cell)?;
+    for place in 0..kind.pins.len() {
+        let connection = connection_at(design, pins, &links, cell, place);
+        let row = pin_row(design, tables, ends, cell, place, connection)?;
+        rows.push(row)?;
+    }
+    Ok(())
+}
+
+/// Adds the pins of all cells. Pins are given by tables of all library cells.
+pub(crate) fn add_cells(
+    alloc: Global,
+    rows: &mut List<PinRow>,
+    design: &Hierarchy<'_>,
+    tables: &[NetTable<'_>],
+    ends: &[Source],
+    pins: &[Terminals<'_>],
+) -> Result<(), NoMemory>
+    requires is { IsHierarchy design.now }
+    requires tables { AllZip (λ m found. IsNetTable m.nets found) design.now.modules.now tables.now }
+    requires ends { AreEnds design.now ends.now }
+    requires pins { AllZip (λ kind found. IsTerminals (pins_of kind) found) design.now.library.now.cells pins.now }
+    ensures { OnOk result (AddsPins design.now (flat_map cell_pins (enumerate_from 0 (cells_in design.now))) rows.old rows.new) }
+{
+    for cell in 0..design.layout.cells.len() {
+        add_cell_pins(alloc, rows, design, tables, ends, pins, cell)?;
+    }
+    Ok(())
+}

@@ -1,0 +1,55 @@
+//! The cells of a design.
+
+ghost use Rattle.std.specs.Prelude.{◌≡◌, ◌<◌, IfOk, Some, length, map, slice_get};
+ghost use Rattle.std.specs.List.{AllZip};
+ghost use Rattle.sdc_model.specs.FlatDesign.{FlatCell, IsCell};
+ghost use Rattle.flat_design.specs.Hierarchy.{IsHierarchy, cell_name, cells_in};
+ghost use Rattle.flat_design.specs.PinRows.{flat_of};
+
+use crate::hierarchy::Hierarchy;
+use crate::items::item_at;
+use crate::pin_names::kind_at;
+use sdc_base::{List, NoMemory, Text};
+use sdc_model::{CellInfo, Pin};
+use std::alloc::Global;
+
+/// The cell at a place, by its name. Numbers that are too large for a design are want of memory.
+fn cell_info(design: &Hierarchy<'_>, place: usize, name: Text) -> Result<CellInfo, NoMemory>
+    requires is { IsHierarchy design.now }
+    requires within { place < length design.now.layout.cells }
+    ensures { (cell : FlatCell) → slice_get (flat_of design.now).cells place ≡ Some cell
+        → name ≡ cell_name cell.is → IfOk result (IsCell design.now.library.now cell) }
+{
+    let row = item_at(design.layout.cells.as_slice(), place);
+    let pins = kind_at(design, place).pins.len();
+    let Ok(kind) = u32::try_from(row.kind) else {
+        return Err(NoMemory);
+    };
+    let Ok(count) = u16::try_from(pins) else {
+        return Err(NoMemory);
+    };
+    Ok(CellInfo {
+        name,
+        kind,
+        first: Pin(row.first_pin as u32),
+        count,
+    })
+}
+
+/// All cells, by their names.
+pub(crate) fn cells_of(
+    alloc: Global,
+    design: &Hierarchy<'_>,
+    names: List<Text>,
+) -> Result<List<CellInfo>, NoMemory>
+    requires is { IsHierarchy design.now }
+    requires names { names ≡ map cell_name (cells_in design.now) }
+    ensures { IfOk result (AllZip (IsCell design.now.library.now) (flat_of design.now).cells) }
+{
+    let mut cells = List::new(alloc);
+    for name in Vec::from(names) {
+        let cell = cell_info(design, cells.len(), name)?;
+        cells.push(cell)?;
+    }
+    Ok(cells)
+}

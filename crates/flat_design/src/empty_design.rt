@@ -1,0 +1,25 @@
+//! The design without a pin.
+
+ghost use Rattle.std.specs.Prelude.{◌≡◌, Ok};
+ghost use Rattle.flat_design.specs.EmptyDesign.{empty_design};
+
+use sdc_base::{List, NoMemory, Text};
+use sdc_model::Design;
+use std::alloc::Global;
+
+/// Femtoseconds in a nanosecond, the unit of the design without a pin.
+const NANOSECOND: i64 = 1_000_000;
+
+/// The design without a pin, whose times are in nanoseconds. It takes no memory.
+pub fn empty(alloc: Global) -> Result<Design, NoMemory>
+    ensures { result ≡ Ok empty_design }
+{
+    Ok(Design {
+        top: Text::new(alloc),
+        unit: NANOSECOND,
+        pins: List::new(alloc),
+        cells: List::new(alloc),
+        nets: List::new(alloc),
+        kinds: List::new(alloc),
+    })
+}

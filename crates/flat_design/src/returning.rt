@@ -1,0 +1,148 @@
+//! Whether following sources from a net comes back to it.
+
+ghost use Rattle.std.specs.Prelude.{◌≡◌, ◌<◌, ◌==◌, ◌||◌, [], IfOk, OnOk, length};
+ghost use Rattle.flat_design.specs.Sources.{fed};
+ghost use Rattle.flat_design.specs.SourceTable.{IsLinked, IsNetWithin};
+ghost use Rattle.flat_design.specs.Searches.{IsBegun, IsSearch, ReachesMore, TellsReturn, has_net, is_net};
+
+use crate::feeds::Feeder;
+use crate::items::item_at;
+use crate::source_table::SourceTable;
+use sdc_base::NoMemory;
+use std::alloc::Global;
+
+/// Searches along sources, one after the other: of each net the turn in which it was reached last, and the nets that are
+/// left to be looked at in the search of this turn.
+#[derive(Drop)]
+pub(crate) struct Search {
+    reached: Vec<u64>,
+    turn: u64,
+    left: Vec<usize>,
+}
+
+impl Search {
+    /// Searches among so many nets, of which none was made yet.
+    pub(crate) fn new(alloc: Global, nets: usize) -> Result<Search, NoMemory>
+        ensures search { IfOk result (IsSearch nets) }
+        ensures turn { IfOk result (λ search. search.turn ≡ 0) }
+        ensures left { IfOk result (λ search. search.left.items ≡ []) }
+    {
+        Ok(Search {
+            reached: vec![in alloc; 0; nets]?,
+            turn: 0,
+            left: Vec::new(alloc),
+        })
+    }
+
+    /// Begins a search, in which nothing was reached yet.
+    fn begin(&mut self, alloc: Global) -> Result<(), NoMemory>
+        requires { IsSearch (length self.old.reached.items) self.old }
+        ensures search { OnOk result (IsSearch (length self.old.reached.items) self.new) }
+        ensures begun { OnOk result (IsBegun self.new) }
+    {
+        match self.turn.checked_add(1) {
+            Some(turn) => {
+                self.turn = turn;
+                self.left.clear();
+            }
+            None => {
+                *self = Search::new(alloc, self.reached.len())?;
+                self.turn = 1;
+            }
+        }
+        Ok(())
+    }
+
+    /// Reaches a net, which is left to be looked at where it was not reached before.
+    fn reach(&mut self, net: usize) -> Result<(), NoMemory>
+        requires search { IsSearch (length self.old.reached.items) self.old }
+        requires net { net < length self.old.reached.items }
+        ensures search { OnOk result (IsSearch (length self.old.reached.items) self.new) }
+        ensures reaches { OnOk result (ReachesMore (λ other. net == other) self.old self.new) }
+    {
+        if self.reached[net] != self.turn {
+            self.reached[net] = self.turn;
+            self.left.push(net)?;
+        }
+        Ok(())
+    }
+
+    /// Reaches a net where it is a source.
+    fn reach_source(&mut self, source: Feeder) -> Result<(), NoMemory>
+        requires search { IsSearch (length self.old.reached.items) self.old }
+        requires within { IsNetWithin (length self.old.reached.items) source }
+        ensures search { OnOk result (IsSearch (length self.old.reached.items) self.new) }
+        ensures reaches { OnOk result (ReachesMore (λ net. is_net net source) self.old self.new) }
+    {
+        match source {
+            Feeder::Net(net) => self.reach(net as usize),
+            Feeder::Value(_) | Feeder::Pin(_) => Ok(()),
+        }
+    }
+
+    /// Reaches the nets among the sources of a net, and tells whether a wanted one is among them.
+    fn reach_sources(
+        &mut self,
+        table: &SourceTable<'_>,
+        net: usize,
+        wanted: usize,
+    ) -> Result<bool, NoMemory>
+        requires table { IsLinked table.now }
+        requires net { net < length table.now.last }
+        requires search { IsSearch (length table.now.last) self.old }
+        ensures search { OnOk result (IsSearch (length table.now.last) self.new) }
+        ensures wanted { IfOk result (λ found. found ≡ has_net (fed table.now.rows.now net) wanted) }
+        ensures reaches { OnOk result (ReachesMore (has_net (fed table.now.rows.now net)) self.old self.new) }
+    {
+        let mut found = false;
+        let mut last = *item_at(table.last.as_slice(), net);
+        while last > 0 {
+            let place = last - 1;
+            let source = item_at(table.rows, place).from;
+            found = found_in(found, source, wanted);
+            self.reach_source(source)?;
+            last = *item_at(table.earlier.as_slice(), place);
+        }
+        Ok(found)
+    }
+}
+
+/// Whether a net was found, or is this source.
+fn found_in(found: bool, source: Feeder, net: usize) -> bool
+    ensures { result ≡ (found || is_net net source) }
+{
+    found || is_net(source, net)
+}
+
+/// Whether a source is a net.
+fn is_net(source: Feeder, net: usize) -> bool
+    ensures { result ≡ is_net net source }
+{
+    match source {
+        Feeder::Net(other) => other == net as u64,
+        Feeder::Value(_) | Feeder::Pin(_) => false,
+    }
+}
+
+/// Whether following sources from a net comes back to it.
+pub(crate) fn returns(
+    alloc: Global,
+    search: &mut Search,
+    table: &SourceTable<'_>,
+    net: usize,
+) -> Result<bool, NoMemory>
+    requires table { IsLinked table.now }
+    requires net { net < length table.now.last }
+    requires search { IsSearch (length table.now.last) search.old }
+    ensures search { OnOk result (IsSearch (length table.now.last) search.new) }
+    ensures returns { IfOk result (TellsReturn table.now.rows.now net) }
+{
+    search.begin(alloc)?;
+    search.left.push(net)?;
+    while let Some(from) = search.left.pop() {
+        if search.reach_sources(table, from, net)? {
+            return Ok(true);
+        }
+    }
+    Ok(false)
+}
