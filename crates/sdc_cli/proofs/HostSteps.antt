@@ -1,11 +1,9 @@
 -- What the run of a mode file's text tells is what its bytes say.
 use Rattle.std.proofs.Common.{◌≡◌, ◌≤◌, ◌+◌, ◌-◌, ℕ, zero, suc, Bool, true, false, cond, List, [], ◌∷◌, ◌++◌, length, Option, Some, None, Result, Ok, Err, refl, sym, ◌∙◌, ap, subst, inl, inr, arith}
 use Rattle.std.proofs.lemmas.Bool.Decides.{nat_tests}
-use Rattle.std.proofs.lemmas.Str.{utf8_valid_len_le}
 use Rattle.std.specs.Option.{option_map}
 use Rattle.std.specs.Prelude.{nat_lt, slice_get}
 use Rattle.std.specs.Str.{IsUtf8}
-use Rattle.std.specs.Str.Lossy.{utf8_valid_len}
 use Rattle.sdc_base.specs.Gives.{Gives, Meets}
 use Rattle.sdc_base.specs.declared.memory.At.{At}
 use Rattle.sdc_base.specs.declared.memory.Stop.{Stop}
@@ -80,9 +78,6 @@ not_text line = Err (record { line = line; kind = NotText })
 
 pub no_text : (bytes : List ℕ) (line : ℕ) → (IsUtf8 bytes → ⊥) → line ≡ broken_text_line bytes → SaysMode bytes (not_text line)
 no_text bytes line not_utf8 line_is = inr (not_utf8, ap not_text line_is)
-
-pub valid_within : (bytes : List ℕ) → utf8_valid_len bytes ≤ length bytes
-valid_within bytes = utf8_valid_len_le bytes
 
 -- ---- the number of clocks
 

@@ -12,7 +12,8 @@ use Rattle.sdc_model.specs.PlainViews.{views_of}
 use Rattle.sdc_model.specs.PrintedFile.{ArePairs, ArePrintableClocks, IsOfClocks, IsPrintable, ModesArePrintable, printed_file}
 use Rattle.sdc_print.specs.Runs.{groups_text}
 use Rattle.sdc_print.proofs.GroupLengths.{groups_added}
-use Rattle.sdc_cli.specs.MergeOutput.{empty_design, merged_text, IsMergedLength}
+use Rattle.flat_design.specs.EmptyDesign.{empty_design}
+use Rattle.sdc_cli.specs.MergeOutput.{merged_text, IsMergedLength}
 use Rattle.sdc_cli.proofs.MergedClocks.{merged_is_printable}
 
 pub nanoseconds : IsUnit empty_design.unit

@@ -1,10 +1,10 @@
 -- What a merge over the empty design writes: the printed merged mode, which reads back as it, and its report. This
 -- project's own.
 -- A merged text of more bytes than a file may have is refused with their number.
-use Rattle.std.specs.Prelude.{◌≡◌, ◌<◌, ◌≤◌, ℕ, pos, List, [], length, Ok}
+use Rattle.std.specs.Prelude.{◌≡◌, ◌<◌, ◌≤◌, ℕ, List, length, Ok}
+use Rattle.flat_design.specs.EmptyDesign.{empty_design}
 use Rattle.sdc_base.specs.declared.whole.TheConstants.{MOST_BYTES}
 use Rattle.source_types.specs.declared.command_lines.Output.{Output}
-use Rattle.timing_types.specs.declared.designs.Design.{Design}
 use Rattle.timing_types.specs.declared.merges.Merged.{Merged}
 use Rattle.timing_types.specs.declared.modes.Mode.{Mode}
 use Rattle.sdc_model.specs.ModeMeaning.{SaysMode}
@@ -14,11 +14,7 @@ use Rattle.sdc_cli.specs.declared.reports.Report.TheVariants.{Merge}
 use Rattle.sdc_cli.specs.MergeRows.{report_of}
 use Rattle.sdc_cli.specs.ReportTree.{report_bytes}
 
--- the design without a pin, its times in nanoseconds
-abbrev pub empty_design : Design
-empty_design = record { top = []; unit = pos 1000000; pins = []; cells = []; nets = []; kinds = [] }
-
--- the text of a merged mode over it
+-- the text of a merged mode over the design without a pin
 abbrev pub merged_text : Merged → List ℕ
 merged_text merged = printed_file empty_design merged.mode
 

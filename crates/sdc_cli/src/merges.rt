@@ -6,30 +6,14 @@ ghost use Rattle.sdc_model.specs.MergedMode.{IsMergeOf};
 ghost use Rattle.sdc_model.specs.PlainViews.{own_wave, own_waves, view_of, views_of, clocks_in};
 ghost use Rattle.sdc_model.specs.PrintedFile.{IsOfClocks, ModesArePrintable};
 ghost use Rattle.sdc_print.specs.Runs.{groups_text};
-ghost use Rattle.sdc_cli.specs.MergeOutput.{empty_design, IsMergedLength};
+ghost use Rattle.flat_design.specs.EmptyDesign.{empty_design};
+ghost use Rattle.sdc_cli.specs.MergeOutput.{IsMergedLength};
 
 use clock_map::{ExclusiveRows, exclusive_pairs, map_clocks};
-use sdc_base::{Duplicate, List, NoMemory, Stop, Text};
+use sdc_base::{Duplicate, List, NoMemory, Stop};
 use sdc_model::{Arrivals, Clock, Design, Form, MergeStop, Merged, Mode, Pair, View, Wave};
 use sdc_print::{length_with_group, printed_length};
 use std::alloc::Global;
-
-/// Femtoseconds in a nanosecond, the unit of the empty design.
-const NANOSECOND: i64 = 1_000_000;
-
-/// The design without a pin, whose times are in nanoseconds.
-pub fn empty(alloc: Global) -> Design
-    ensures { result ≡ empty_design }
-{
-    Design {
-        top: Text::new(alloc),
-        unit: NANOSECOND,
-        pins: List::new(alloc),
-        cells: List::new(alloc),
-        nets: List::new(alloc),
-        kinds: List::new(alloc),
-    }
-}
 
 /// The merged mode of modes of clocks and clock groups, over a design without a pin. There no path is timed, so
 /// nothing is listed, nothing is left, and no step of the budget is taken. The one stop is want of memory.

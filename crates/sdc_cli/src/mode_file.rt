@@ -2,10 +2,8 @@
 
 ghost use Rattle.std.specs.Prelude.{◌≡◌, Ok, slice_get};
 ghost use Rattle.std.specs.Option.{option_map};
-ghost use Rattle.std.specs.Str.Lossy.{utf8_valid_len};
 ghost use Rattle.sdc_base.specs.Gives.{Gives, Meets};
 ghost use Rattle.timing_types.specs.declared.clocks.Clock.{Clock};
-ghost use Rattle.sdc_model.specs.LastLine.{broken_text_line};
 ghost use Rattle.sdc_model.specs.ClockFile.{clock_mode};
 ghost use Rattle.sdc_model.specs.ModeFiles.{within_limit};
 ghost use Rattle.sdc_model.specs.ModeMeaning.{SaysMode, SaysText};
@@ -18,7 +16,7 @@ use sdc_base::{At, Stop};
 use sdc_model::{Clock, Kind, Mode, SdcKind};
 use std::alloc::Global;
 use tcl_eval::eval;
-use tcl_words::line_at;
+use text_lines::no_text_line;
 
 /// The mode that the bytes of a file say, or its first fault; `TooMany` where it has more clocks than `most`, with
 /// the line of the first clock beyond them. The clocks are counted before their exclusive pairs are made, which may
@@ -79,15 +77,6 @@ fn run_text(alloc: Global, text: &str) -> Result<ModeSoFar, Stop<At<Kind>>>
     let mut host = ModeHost::new(alloc);
     eval(alloc, text, &mut host)?;
     Ok(host.into_so_far())
-}
-
-/// The line of the first byte that is no UTF-8, given the number of those before it.
-#[tactic(auto, using(crate::proofs::HostSteps::valid_within))]
-fn no_text_line(bytes: &[u8], valid: usize) -> u32
-    requires { valid ≡ utf8_valid_len bytes.now }
-    ensures { result ≡ broken_text_line bytes.now }
-{
-    line_at(bytes, 0, valid, 1)
 }
 
 #[cfg(test)]

@@ -8,9 +8,10 @@ ghost use Rattle.sdc_cli.specs.Outputs.{Computes, ComputesMerge};
 
 use crate::edges_report::report_text;
 use crate::merge_rows::report_of;
-use crate::merges::{empty, merge, merged_length};
+use crate::merges::{merge, merged_length};
 use crate::report_tree::report_bytes;
 use crate::reports::Report;
+use flat_design::empty;
 use sdc_base::{List, MOST_BYTES, Text};
 use sdc_model::{CommandLine, Mode, Output, Status};
 use sdc_print::print;
@@ -46,7 +47,7 @@ fn merge_output(alloc: Global, files: &[Text], modes: &List<Mode>) -> Result<Out
     requires few { clocks_in modes.now ≤ 16384 }
     ensures { ComputesMerge files.now modes.now result }
 {
-    let design = empty(alloc);
+    let design = empty(alloc)?;
     let bytes = merged_length(alloc, &design, modes)?;
     if bytes > MOST_BYTES as u64 {
         return Err(Status::TooLarge(bytes));

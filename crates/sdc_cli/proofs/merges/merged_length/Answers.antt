@@ -4,7 +4,7 @@ use Rattle.sdc_model.specs.ClockIdentity.{IsClockMap}
 use Rattle.sdc_model.specs.Exclusive.{AreExclusivePairs}
 use Rattle.sdc_model.specs.PlainViews.{ArePlain, views_of, clocks_in}
 use Rattle.sdc_model.specs.PrintedFile.{IsPrintable, printed_file}
-use Rattle.sdc_cli.specs.MergeOutput.{empty_design}
+use Rattle.flat_design.specs.EmptyDesign.{empty_design}
 use Rattle.sdc_cli.proofs.MergedClocks.{views_are_primary, views_have_waves, views_count}
 use Rattle.sdc_cli.proofs.MergedLengths.{alone_is_printable, counted}
 use Rattle.sdc_cli.proofs.merges.merged_length.Goals as goal
