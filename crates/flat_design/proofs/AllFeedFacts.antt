@@ -11,9 +11,9 @@ use Rattle.flat_design.specs.declared.layout.SpotRow.{SpotRow}
 use Rattle.flat_design.specs.Feeds.{Adds, IsFeed}
 use Rattle.flat_design.specs.Hierarchy.{IsHierarchy, cells_in, spots_in}
 use Rattle.flat_design.specs.Layout.{IsOpened, IsOpenedBy}
-use Rattle.flat_design.proofs.AddedFeeds.{adds_then}
 use Rattle.flat_design.proofs.HierarchyFacts.{one_at, opened_by}
 use Rattle.flat_design.proofs.PathsApart.{spots_apart}
+use Rattle.flat_design.proofs.RowFacts.{rows_then}
 
 -- a module that stands for no instance is the top
 pub top_found : (design : Hierarchy) (n : ℕ) (row : SpotRow) (spot : Spot) → IsHierarchy design → slice_get design.layout.spots n ≡ Some row
@@ -55,14 +55,14 @@ pub spot_added : (design : Hierarchy) (spot : Spot) (old first second new : List
     → Adds design (flat_map (tie_feeds spot.path) spot.body.nets) first second → Adds design (flat_map (assign_feeds spot.path) spot.body.assigns) second new
     → Adds design (spot_feeds spot) old new
 spot_added design spot old first second new ports ties assigns =
-    adds_then design (boundary_feeds spot) (flat_map (tie_feeds spot.path) spot.body.nets ++ flat_map (assign_feeds spot.path) spot.body.assigns) old first new ports
-    (adds_then design (flat_map (tie_feeds spot.path) spot.body.nets) (flat_map (assign_feeds spot.path) spot.body.assigns) first second new ties assigns)
+    rows_then (IsFeed design) (boundary_feeds spot) (flat_map (tie_feeds spot.path) spot.body.nets ++ flat_map (assign_feeds spot.path) spot.body.assigns) old first new ports
+    (rows_then (IsFeed design) (flat_map (tie_feeds spot.path) spot.body.nets) (flat_map (assign_feeds spot.path) spot.body.assigns) first second new ties assigns)
 
 -- all of them, from no rows on
 pub feeds_added : (design : Hierarchy) (none first rows : List FeedRow) → none ≡ [] → Adds design (flat_map spot_feeds (spots_in design)) none first
     → Adds design (flat_map cell_feeds (cells_in design)) first rows
     → AllZip (IsFeed design) (feeds_of design.modules.now design.library.now design.top.now) rows
 feeds_added design none first rows empty spots cells =
-    let whole = adds_then design (flat_map spot_feeds (spots_in design)) (flat_map cell_feeds (cells_in design)) none first rows spots cells in
+    let whole = rows_then (IsFeed design) (flat_map spot_feeds (spots_in design)) (flat_map cell_feeds (cells_in design)) none first rows spots cells in
     let same : whole.0 ≡ rows = sym (whole.1 ∙ ap (λ (xs : List FeedRow). xs ++ whole.0) empty) in
     subst (AllZip (IsFeed design) (feeds_of design.modules.now design.library.now design.top.now)) same whole.2

@@ -1,5 +1,6 @@
 -- Lists in which each thing is told apart from the others by a key.
-use Rattle.std.proofs.Common.{◌≡◌, ◌+◌, ◌⊎◌, inl, inr, ℕ, zero, suc, List, [], ◌∷◌, ◌++◌, map, length, slice_get, Option, Some, None, refl, sym, ◌∙◌, ap, arith}
+use Rattle.std.proofs.Common.{◌≡◌, ◌+◌, ◌⊎◌, inl, inr, ℕ, zero, suc, List, [], ◌∷◌, ◌++◌, map, length, take, slice_get, Option, Some, None, refl, sym, ◌∙◌, ap, arith}
+use Rattle.std.proofs.lemmas.List.{length-append}
 use Rattle.std.specs.List.{cons_option, filter_map, flat_map}
 
 -- two places with one key are one
@@ -44,14 +45,17 @@ apart_append key (x ∷ xs) ys front back cross =
       | inr behind ↦ cross 0 behind.0 x y refl behind.2 same
     ])
 
--- where a thing of joined parts stands
+-- where a thing of joined parts stands, with how much stands before its part
 pub get_flat : {X Y : Type 0} (f : X → List Y) (xs : List X) (n : ℕ) (y : Y) → slice_get (flat_map f xs) n ≡ Some y
-    → (k : ℕ) × (x : X) × (m : ℕ) × (slice_get xs k ≡ Some x) × (slice_get (f x) m ≡ Some y)
+    → (k : ℕ) × (x : X) × (m : ℕ) × (slice_get xs k ≡ Some x) × (slice_get (f x) m ≡ Some y) × (n ≡ length (flat_map f (take k xs)) + m)
 get_flat f [] n y at = let bad : None ≡ Some y = at in cc
 get_flat f (x ∷ xs) n y at =
     elim (get_append (f x) (flat_map f xs) n y at) [
-      | inl front ↦ (0, x, n, refl, front)
-      | inr back ↦ let r = get_flat f xs back.0 y back.2 in (suc r.0, r.1, r.2, r.3, r.4)
+      | inl front ↦ let e : n ≡ 0 + n = omega arith in (0, x, n, refl, front, e)
+      | inr back ↦
+          let r = get_flat f xs back.0 y back.2 in
+          let long = length-append (f x) (flat_map f (take r.0 xs)) in
+          (suc r.0, r.1, r.2, r.3, r.4, omega (arith, long, back.1, r.5))
     ]
 
 -- joined parts, each with its things apart
@@ -114,10 +118,6 @@ apart_kept h key own (x ∷ xs) same all =
 
 -- ---- lists with one end
 
-length_end : (front : List ℕ) (s : List ℕ) → length (front ++ s) ≡ length front + length s
-length_end [] s = omega arith
-length_end (n ∷ front) s = let e = length_end front s in omega (arith, e)
-
 same_head : (front other s : List ℕ) (i j : ℕ) → length front ≡ length other → front ++ i ∷ s ≡ other ++ j ∷ s → i ≡ j
 same_head [] [] s i j same e = let whole : i ∷ s ≡ j ∷ s = e in cc
 same_head [] (m ∷ other) s i j same e = absurd (omega (arith, same))
@@ -130,8 +130,8 @@ same_head (n ∷ front) (m ∷ other) s i j same e =
 -- what stands in front of one end is told by the lists
 pub head_of : (front other s : List ℕ) (i j : ℕ) → front ++ i ∷ s ≡ other ++ j ∷ s → i ≡ j
 head_of front other s i j e =
-    let a = length_end front (i ∷ s) in
-    let b = length_end other (j ∷ s) in
+    let a = length-append front (i ∷ s) in
+    let b = length-append other (j ∷ s) in
     let c = ap length e in
     let more : length (i ∷ s) ≡ length (j ∷ s) = refl in
     same_head front other s i j (omega (arith, a, b, c, more)) e
@@ -139,7 +139,7 @@ head_of front other s i j e =
 -- a list is not longer than itself
 pub not_longer : (front s : List ℕ) (i : ℕ) → s ≡ front ++ i ∷ s → ⊥
 not_longer front s i e =
-    let a = length_end front (i ∷ s) in
+    let a = length-append front (i ∷ s) in
     let c = ap length e in
     let more : length (i ∷ s) ≡ suc (length s) = refl in
     omega (arith, a, c, more)

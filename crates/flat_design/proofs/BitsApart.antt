@@ -1,7 +1,7 @@
 -- No two net bits of a design are one: they are told apart by path, name and index.
 use Rattle.std.proofs.Common.{◌≡◌, ◌+◌, ◌-◌, ◌<◌, inl, inr, ℕ, List, [], map, slice_get, Option, Some, None, sym, ◌∙◌, ap, arith}
 use Rattle.std.proofs.lemmas.Bool.{cases_lt}
-use Rattle.std.proofs.lemmas.Option.{slice_get_within}
+use Rattle.std.proofs.lemmas.Option.{same_Some, slice_get_within}
 use Rattle.std.specs.List.{flat_map}
 use Rattle.source_types.specs.declared.netlists.Module.{Module}
 use Rattle.source_types.specs.declared.netlists.Range.{Range}
@@ -19,9 +19,6 @@ use Rattle.flat_design.proofs.RangeFacts.{down_at, down_within, map_at, up_at}
 
 -- ---- the bits of one net
 
-same_some : (i j : ℕ) → Some i ≡ Some j → i ≡ j
-same_some i j e = cc
-
 down_same : (left right i j x y : ℕ) → right < left → i < span left right → j < span left right → left - i ≡ x → left - j ≡ y → x ≡ y → i ≡ j
 down_same left right i j x y high in_i in_j a b same =
     let m : i < (left - right) + 1 = down_within left right i high in_i in
@@ -33,12 +30,12 @@ index_apart : (left right i j x y : ℕ) → i < span left right → j < span le
 index_apart left right i j x y in_i in_j at_i at_j same =
     elim (cases_lt right left) [
       | inl high ↦
-          let a : left - i ≡ x = same_some (left - i) x (sym (down_at left right i high in_i) ∙ at_i) in
-          let b : left - j ≡ y = same_some (left - j) y (sym (down_at left right j high in_j) ∙ at_j) in
+          let a : left - i ≡ x = same_Some (left - i) x (sym (down_at left right i high in_i) ∙ at_i) in
+          let b : left - j ≡ y = same_Some (left - j) y (sym (down_at left right j high in_j) ∙ at_j) in
           down_same left right i j x y high in_i in_j a b same
       | inr low ↦
-          let a : left + i ≡ x = same_some (left + i) x (sym (up_at left right i low in_i) ∙ at_i) in
-          let b : left + j ≡ y = same_some (left + j) y (sym (up_at left right j low in_j) ∙ at_j) in
+          let a : left + i ≡ x = same_Some (left + i) x (sym (up_at left right i low in_i) ∙ at_i) in
+          let b : left + j ≡ y = same_Some (left + j) y (sym (up_at left right j low in_j) ∙ at_j) in
           omega (arith, a, b, same)
     ]
 
@@ -53,7 +50,7 @@ indices_apart : (range : Option Range) → Apart (λ (index : Option ℕ). index
 indices_apart None = apart_cons (λ (index : Option ℕ). index) None [] (apart_none (λ (index : Option ℕ). index)) (λ j y at same. let bad : None ≡ Some y = at in cc)
 indices_apart (Some range) =
     apart_map (λ (i : ℕ). Some i) (λ (index : Option ℕ). index) (from_to range.left range.right)
-    (λ i j x y at_i at_j same. numbers_apart range i j x y at_i at_j (same_some x y same))
+    (λ i j x y at_i at_j same. numbers_apart range i j x y at_i at_j (same_Some x y same))
 
 -- ---- the nets of one module
 

@@ -1,8 +1,9 @@
 -- The bits that instances connect, and the ports of modules that stand for instances.
 use Rattle.std.proofs.Common.{◌≡◌, ◌+◌, ◌≤◌, ℕ, zero, suc, Bool, true, false, cond, List, [], ◌∷◌, length, map, take, slice_get, Option, Some, None, refl, sym, ◌∙◌, ap, subst, arith}
 use Rattle.std.proofs.lemmas.List.Elements.{All-nil, All-weaker}
-use Rattle.std.proofs.lemmas.Option.{get_or_from_slice_get}
-use Rattle.std.specs.List.{All, AllZip, filter_map, find, flat_map, list_any, zip}
+use Rattle.std.proofs.lemmas.List.Folds.{find_at}
+use Rattle.std.proofs.lemmas.Slice.Zip.{length-zip}
+use Rattle.std.specs.List.{All, AllZip, filter_map, find, flat_map, list_any, position_or_len, zip}
 use Rattle.source_types.specs.declared.netlists.Bit.{Bit}
 use Rattle.source_types.specs.declared.netlists.Instance.{Instance}
 use Rattle.source_types.specs.declared.netlists.Link.{Link}
@@ -20,19 +21,17 @@ use Rattle.sdc_model.specs.Words.{same_text}
 use Rattle.flat_design.specs.declared.feeds.FeedRow.{FeedRow}
 use Rattle.flat_design.specs.declared.hierarchy.Hierarchy.{Hierarchy}
 use Rattle.flat_design.specs.declared.layout.Outer.{Outer}
-use Rattle.flat_design.specs.Feeds.{Adds, HasBit, HasPort}
+use Rattle.flat_design.specs.Feeds.{Adds, HasBit, HasPort, IsFeed}
 use Rattle.flat_design.specs.Hierarchy.{IsHierarchy, spots_in}
 use Rattle.flat_design.specs.declared.terminals.Terminals.{Terminals}
 use Rattle.flat_design.specs.Layout.{IsPlaced}
 use Rattle.flat_design.specs.Tables.{IsTerminals}
-use Rattle.flat_design.proofs.AddedFeeds.{adds_none}
 use Rattle.flat_design.proofs.HierarchyFacts.{one_at}
-use Rattle.flat_design.proofs.LaidOut.{all_at}
 use Rattle.flat_design.proofs.NumberFacts.{flat_at, front_at}
-use Rattle.flat_design.proofs.PlaceFacts.{get_within}
+use Rattle.flat_design.proofs.PlaceFacts.{all_at, all_from, contains_at}
 use Rattle.flat_design.proofs.PortFacts.{pair_across}
+use Rattle.flat_design.proofs.RowFacts.{rows_none}
 use Rattle.flat_design.proofs.TerminalFacts.{zip_at}
-use Rattle.flat_design.proofs.TieFacts.{contains_at}
 
 -- ---- nothing is connected
 
@@ -45,14 +44,9 @@ zip_none (x ∷ xs) = refl
 
 pub no_feeds : (design : Hierarchy) (inside outside : List ℕ) (port : Port) (rows : List FeedRow) → Adds design (port_feeds inside outside (port, [])) rows rows
 no_feeds design inside outside port rows =
-    subst (λ pairs. Adds design (filter_map (pair_across port inside outside) pairs) rows rows) (sym (zip_none (port_bits port))) (adds_none design rows)
+    subst (λ pairs. Adds design (filter_map (pair_across port inside outside) pairs) rows rows) (sym (zip_none (port_bits port))) (rows_none (IsFeed design) rows)
 
 -- ---- what is connected is among what is linked
-
-all_from : {X : Type 0} (P : X → Type 0) (xs : List X) → ((k : ℕ) (x : X) → slice_get xs k ≡ Some x → P x) → All P xs
-all_from P xs each k d low =
-    let here = get_within xs k low in
-    subst P (sym (get_or_from_slice_get xs k here.0 d here.1)) (each k here.0 here.1)
 
 flat_each : {X Y : Type 0} (P : Y → Type 0) (f : X → List Y) (xs : List X) (i : ℕ) (x : X) → All P (flat_map f xs) → slice_get xs i ≡ Some x → All P (f x)
 flat_each P f xs i x all at =
@@ -79,14 +73,8 @@ named_all P before [] all each n own at = let bad : None ≡ Some own = at in cc
 named_all P before (name ∷ names) all each zero own at = either_all P (list_any (same_text name) before) (bits_named all name) own (each name) at
 named_all P before (name ∷ names) all each (suc n) own at = named_all P (name ∷ before) names all each n own at
 
-find_step : (p : Link → Bool) (x : Link) (xs : List Link) (link : Link) (t : Bool) → (find p xs ≡ Some link → (k : ℕ) × (slice_get xs k ≡ Some link))
-    → cond t (Some x) (find p xs) ≡ Some link → (k : ℕ) × (slice_get (x ∷ xs) k ≡ Some link)
-find_step p x xs link true rest at = (0, at)
-find_step p x xs link false rest at = let r = rest at in (suc r.0, r.1)
-
 find_in : (p : Link → Bool) (xs : List Link) (link : Link) → find p xs ≡ Some link → (k : ℕ) × (slice_get xs k ≡ Some link)
-find_in p [] link at = let bad : None ≡ Some link = at in cc
-find_in p (x ∷ xs) link at = find_step p x xs link (p x) (λ e. find_in p xs link e) at
+find_in p xs link at = (position_or_len p xs, sym (find_at p xs) ∙ at)
 
 bits_named_all : (P : Bit → Type 0) (all : List Link) (name : List ℕ) → All P (flat_map (λ (link : Link). link.bits) all)
     → (o : Option Link) → find (λ (link : Link). same_text link.port name) all ≡ o → All P (bits_named all name)
@@ -138,6 +126,4 @@ port_named (p ∷ ports) zero port at = let e : Some p ≡ Some port = at in let
 port_named (p ∷ ports) (suc n) port at = port_named ports n port at
 
 pub pairs_few : (ports : List Port) (bits : List (List Bit)) → length (zip ports bits) ≤ length ports
-pairs_few [] bits = omega arith
-pairs_few (p ∷ ports) [] = omega arith
-pairs_few (p ∷ ports) (b ∷ bits) = let e = pairs_few ports bits in omega (arith, e)
+pairs_few ports bits = let e = length-zip ports bits in omega (arith, e)

@@ -15,7 +15,7 @@ use Rattle.flat_design.specs.declared.layout.CellRow.{CellRow}
 use Rattle.flat_design.specs.declared.name_marks.NameMarks.{NameMarks}
 use Rattle.flat_design.specs.Hierarchy.{IsHierarchy, cell_name, cells_in, pins_of_design}
 use Rattle.flat_design.specs.NamedFaults.{AreMarks, HasMark, HasUnnamed, Tells, flat_of}
-use Rattle.flat_design.proofs.CellPlaces.{cell_at, names_before, pin_named_at, pins_fit, row_says}
+use Rattle.flat_design.proofs.CellPlaces.{cell_back, names_before, pin_named_at, pins_fit, row_says}
 use Rattle.flat_design.proofs.HierarchyFacts.{one_at}
 use Rattle.flat_design.proofs.PlaceFacts.{get_within}
 use Rattle.flat_design.proofs.RangeFacts.{map_at}
@@ -77,7 +77,7 @@ good_is names marks n name are at = ap (λ (good : List Bool). slice_get good n)
 own_name : (design : Hierarchy) (n : ℕ) (cell : FlatCell) → slice_get (flat_of design).cells n ≡ Some cell
     → slice_get (map cell_name (cells_in design)) n ≡ Some (cell_name cell.is)
 own_name design n cell at =
-    map_at cell_name (cells_in design) n cell.is (cell_at (length (port_pins design.top.now)) (cells_in design) n cell at).0
+    map_at cell_name (cells_in design) n cell.is (cell_back (length (port_pins design.top.now)) (cells_in design) n cell at).0
 
 pub own_repeat : (design : Hierarchy) (n : ℕ) (cell : FlatCell) (marks : NameMarks) (mark : Bool) → slice_get (flat_of design).cells n ≡ Some cell
     → AreMarks (map cell_name (cells_in design)) marks → slice_get marks.repeats n ≡ Some mark
@@ -99,7 +99,7 @@ own_good design n cell marks mark at are read =
 pin_named : (design : Hierarchy) (n : ℕ) (cell : FlatCell) (at : ℕ) (pin : LibPin) → slice_get (flat_of design).cells n ≡ Some cell
     → slice_get cell.is.kind.pins at ≡ Some pin → slice_get (map flat_pin_name (pins_of_design design)) (cell.first + at) ≡ Some (cell_pin_name cell pin)
 pin_named design n cell at pin cell_is pin_is =
-    let own = cell_at (length (port_pins design.top.now)) (cells_in design) n cell cell_is in
+    let own = cell_back (length (port_pins design.top.now)) (cells_in design) n cell cell_is in
     ap (λ (first : ℕ). slice_get (map flat_pin_name (pins_of_design design)) (first + at)) own.1 ∙ pin_named_at design n at cell.is pin own.0 pin_is
 
 pin_repeat : (design : Hierarchy) (n : ℕ) (cell : FlatCell) (marks : NameMarks) (at : ℕ) (pin : LibPin) → slice_get (flat_of design).cells n ≡ Some cell

@@ -14,7 +14,7 @@ use Rattle.flat_design.specs.NamedFaults.{flat_of}
 use Rattle.flat_design.proofs.NumberFacts.{behind_at, flat_at}
 use Rattle.flat_design.proofs.PinCounts.{parts_le, pins_length}
 use Rattle.flat_design.proofs.PinFacts.{all_names_are, names_of_pins, ports_names_are}
-use Rattle.flat_design.proofs.PlaceFacts.{flat_one}
+use Rattle.flat_design.proofs.PlaceFacts.{parts_more}
 use Rattle.flat_design.proofs.RangeFacts.{map_at}
 
 -- ---- cells
@@ -23,17 +23,35 @@ pub cells_count : (first : ℕ) (cells : List PlacedCell) → length (cells_from
 cells_count first [] = refl
 cells_count first (cell ∷ cells) = let e = cells_count (first + length cell.kind.pins) cells in omega (arith, e)
 
+-- a cell with the number of its first pin
+abbrev pub flat_cell : PlacedCell → ℕ → FlatCell
+flat_cell cell first = record { is = cell; first = first }
+
+pub cell_there : (first : ℕ) (cells : List PlacedCell) (n : ℕ) (cell : PlacedCell) → slice_get cells n ≡ Some cell
+    → slice_get (cells_from first cells) n ≡ Some (flat_cell cell (first + pins_in (take n cells)))
+cell_there first [] n cell at = let bad : None ≡ Some cell = at in cc
+cell_there first (c ∷ cells) zero cell at =
+    let e : Some c ≡ Some cell = at in
+    let same : c ≡ cell = cc in
+    let none : pins_in [] ≡ 0 = refl in
+    let plus : first ≡ first + pins_in [] = omega (arith, none) in
+    ap (λ (x : PlacedCell). Some (flat_cell x first)) same ∙ ap (λ (k : ℕ). Some (flat_cell cell k)) plus
+cell_there first (c ∷ cells) (suc n) cell at =
+    let long = length-append (kind_pins c) (flat_map kind_pins (take n cells)) in
+    let plus : first + length c.kind.pins + pins_in (take n cells) ≡ first + pins_in (c ∷ take n cells) = omega (arith, long) in
+    cell_there (first + length c.kind.pins) cells n cell at ∙ ap (λ (k : ℕ). Some (flat_cell cell k)) plus
+
 -- a cell stands behind the pins of those before it
-pub cell_at : (first : ℕ) (cells : List PlacedCell) (n : ℕ) (cell : FlatCell) → slice_get (cells_from first cells) n ≡ Some cell
+pub cell_back : (first : ℕ) (cells : List PlacedCell) (n : ℕ) (cell : FlatCell) → slice_get (cells_from first cells) n ≡ Some cell
     → (slice_get cells n ≡ Some cell.is) × (cell.first ≡ first + pins_in (take n cells))
-cell_at first [] n cell at = let bad : None ≡ Some cell = at in cc
-cell_at first (one ∷ cells) zero cell at =
-    let e : Some (record { is = one; first = first }) ≡ Some cell = at in
-    let same : record { is = one; first = first } ≡ cell = cc in
+cell_back first [] n cell at = let bad : None ≡ Some cell = at in cc
+cell_back first (one ∷ cells) zero cell at =
+    let e : Some (flat_cell one first) ≡ Some cell = at in
+    let same : flat_cell one first ≡ cell = cc in
     let none : first ≡ first + 0 = omega arith in
     (ap (λ (c : FlatCell). Some c.is) same, ap (λ (c : FlatCell). c.first) (sym same) ∙ none)
-cell_at first (one ∷ cells) (suc n) cell at =
-    let rest = cell_at (first + length one.kind.pins) cells n cell at in
+cell_back first (one ∷ cells) (suc n) cell at =
+    let rest = cell_back (first + length one.kind.pins) cells n cell at in
     let more = length-append (kind_pins one) (flat_map kind_pins (take n cells)) in
     (rest.0, omega (arith, rest.1, more))
 
@@ -81,11 +99,9 @@ pins_fit design n cell at =
     let cells = cells_in design in
     let count = length-map (pins_of_design design) flat_pin_name in
     let all = pins_length design.modules.now design.library.now design.top.now in
-    let one = ap length (flat_one kind_pins cells n cell at) in
-    let a = length-append (flat_map kind_pins (take n cells)) (kind_pins cell ++ []) in
-    let b = length-append (kind_pins cell) [] in
+    let one = parts_more kind_pins cells n cell at in
     let few = parts_le kind_pins cells (n + 1) in
-    omega (arith, count, all, one, a, b, few)
+    omega (arith, count, all, one, few)
 
 -- ---- rows
 
@@ -95,5 +111,5 @@ pub row_says : (design : Hierarchy) (n : ℕ) (row : CellRow) (cell : FlatCell) 
     → (slice_get (cells_in design) n ≡ Some cell.is) × (cell.first ≡ length (port_pins design.top.now) + pins_in (take n (cells_in design))) × (row.first_pin ≡ cell.first)
 row_says design n row cell is row_at at =
     let known = is.layout.cells n row row_at in
-    let own = cell_at (length (port_pins design.top.now)) (cells_in design) n cell at in
+    let own = cell_back (length (port_pins design.top.now)) (cells_in design) n cell at in
     (own.0, own.1, known.first ∙ sym own.1)

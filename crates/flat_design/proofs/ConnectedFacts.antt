@@ -1,6 +1,6 @@
 -- What a terminal is connected to, by places, is what it is connected to.
 use Rattle.std.proofs.Common.{◌≡◌, ◌++◌, ◌||◌, ℕ, zero, suc, Bool, true, false, not, cond, List, [], ◌∷◌, take, slice_get, Option, Some, None, refl, sym, ◌∙◌, ap}
-use Rattle.std.proofs.lemmas.List.{append-nil}
+use Rattle.std.proofs.lemmas.List.{append_assoc, append-nil}
 use Rattle.std.specs.List.{find, list_any}
 use Rattle.source_types.specs.declared.netlists.Bit.{Bit}
 use Rattle.source_types.specs.declared.netlists.Link.{Link}
@@ -9,7 +9,7 @@ use Rattle.sdc_model.specs.Words.{same_text}
 use Rattle.flat_design.specs.Connected.{bits_found, link_bits, link_names, named_at, ordered_at}
 use Rattle.flat_design.specs.Fitting.{stands_first}
 use Rattle.flat_design.specs.Names.{place_of}
-use Rattle.flat_design.proofs.NamedFits.{any_push, split_at}
+use Rattle.flat_design.proofs.NamedFits.{any_push}
 use Rattle.flat_design.proofs.RepeatFacts.{any_swap, repeated_at}
 use Rattle.flat_design.proofs.TableFacts.{at_place, first_found}
 
@@ -56,7 +56,7 @@ named_behind front before (n ∷ names) all zero name is seen =
 named_behind front before (n ∷ names) all (suc at) name is seen =
     named_behind (front ++ n ∷ []) (n ∷ before) names all at name is
     (λ q. ap (λ (b : Bool). same_text q n || b) (seen q) ∙ sym (any_push front n q))
-    ∙ ap (λ (fs : List (List ℕ)). Some (cond (list_any (λ (f : List ℕ). same_text f name) fs) [] (bits_named all name))) (split_at front n (take at names))
+    ∙ ap (λ (fs : List (List ℕ)). Some (cond (list_any (λ (f : List ℕ). same_text f name) fs) [] (bits_named all name))) (append_assoc front (n ∷ []) (take at names))
 
 cond_not : {X : Type 0} (b c : Bool) (x y z : X) → not b ≡ c → y ≡ z → cond c x y ≡ cond b z x
 cond_not true c x y z is same = ap (λ (t : Bool). cond t x y) (sym is) ∙ same

@@ -1,6 +1,7 @@
 -- The rows of cells, and what a cell's pins are connected to.
 use Rattle.std.proofs.Common.{◌≡◌, ◌+◌, ◌<◌, ℕ, List, length, slice_get, Some, ◌∙◌, ap, subst, arith}
 use Rattle.std.proofs.lemmas.Option.{slice_get_within}
+use Rattle.std.proofs.lemmas.Slice.Zip.{AllZip-long}
 use Rattle.std.specs.List.{AllZip, enumerate_from}
 use Rattle.source_types.specs.declared.library_cells.LibCell.{LibCell}
 use Rattle.source_types.specs.declared.library_cells.LibPin.{LibPin}
@@ -17,7 +18,6 @@ use Rattle.flat_design.specs.Tables.{IsTerminals}
 use Rattle.flat_design.proofs.AddedFeeds.{zip_get}
 use Rattle.flat_design.proofs.HierarchyFacts.{one_at}
 use Rattle.flat_design.proofs.PinNumbers.{numbered_at}
-use Rattle.flat_design.proofs.TerminalFacts.{zip_length}
 
 -- what a row says of the cell at its place
 pub record HasCell (design : Hierarchy) (n : ℕ) (row : CellRow) (found : PlacedCell) : Type 0 where
@@ -45,7 +45,7 @@ pub kind_low : (design : Hierarchy) (n : ℕ) (row : CellRow) (tables : List Ter
 kind_low design n row tables is row_at all =
     let some = some_cell design n row is row_at in
     let low = slice_get_within design.library.now.cells row.kind some.0.kind some.1.kind in
-    let count = zip_length (λ (kind : LibCell) found. IsTerminals (pins_of kind) found) design.library.now.cells tables all in
+    let count = AllZip-long (λ (kind : LibCell) found. IsTerminals (pins_of kind) found) design.library.now.cells tables all in
     omega (arith, low, count)
 
 -- a pin with what is connected to it

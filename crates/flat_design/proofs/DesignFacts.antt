@@ -1,6 +1,7 @@
 -- The nets and pins of a design, made of their names and what is beside these.
 use Rattle.std.proofs.Common.{◌≡◌, ℕ, suc, List, [], ◌∷◌, length, map, slice_get, Some, refl, sym, ◌∙◌, ap, subst, arith}
 use Rattle.std.proofs.lemmas.List.{length-map}
+use Rattle.std.proofs.lemmas.Slice.Zip.{AllZip-long}
 use Rattle.std.specs.List.{AllZip, flat_map}
 use Rattle.timing_types.specs.declared.designs.NetInfo.{NetInfo}
 use Rattle.timing_types.specs.declared.designs.PinInfo.{PinInfo}
@@ -12,9 +13,9 @@ use Rattle.flat_design.specs.declared.hierarchy.Hierarchy.{Hierarchy}
 use Rattle.flat_design.specs.declared.pin_rows.PinRow.{PinRow}
 use Rattle.flat_design.specs.DesignParts.{net_infos, pin_infos}
 use Rattle.flat_design.specs.Hierarchy.{IsHierarchy, pins_of_design, spots_in}
-use Rattle.flat_design.specs.PinRows.{AreEnds, IsPinRow, flat_of}
+use Rattle.flat_design.specs.NamedFaults.{flat_of}
+use Rattle.flat_design.specs.PinRows.{AreEnds, IsPinRow}
 use Rattle.flat_design.proofs.RangeFacts.{map_at}
-use Rattle.flat_design.proofs.TerminalFacts.{zip_length}
 
 pub nets_named : (f : Flat) (nets : List FlatNet) (ends : List Source) → length nets ≡ length ends
     → ((n : ℕ) (net : FlatNet) (end : Source) → slice_get nets n ≡ Some net → slice_get ends n ≡ Some end → IsSourceOf (pin_places f) f.feeds (bit_of net) end)
@@ -61,7 +62,7 @@ ends_named design names ends is own named =
 pub rows_named : (design : Hierarchy) (names : List (List ℕ)) (rows : List PinRow) → names ≡ map flat_pin_name (pins_of_design design)
     → AllZip (IsPinRow design) (pins_of_design design) rows → length names ≡ length rows
 rows_named design names rows named all =
-    let count = zip_length (IsPinRow design) (pins_of_design design) rows all in
+    let count = AllZip-long (IsPinRow design) (pins_of_design design) rows all in
     let a : length names ≡ length (map flat_pin_name (pins_of_design design)) = ap length named in
     let b : length (map flat_pin_name (pins_of_design design)) ≡ length (pins_of_design design) = length-map (pins_of_design design) flat_pin_name in
     omega (arith, count, a, b)

@@ -1,8 +1,8 @@
 -- What ends of following sources are, from a net to the one that it feeds.
 use Rattle.std.proofs.Common.{◌≡◌, ◌<◌, ◌≤◌, inl, inr, ℕ, zero, suc, Bool, true, false, cond, List, [], ◌∷◌, ◌++◌, get_or, length, nat_eq, nat_lt, Option, Some, None, refl, sym, ◌∙◌, ap, subst, arith}
-use Rattle.std.proofs.lemmas.Bool.{cases_Bool, ne_eqb, true≢false}
-use Rattle.std.proofs.lemmas.Bool.Decides.{nat_tests}
-use Rattle.std.specs.List.{All, Contains}
+use Rattle.std.proofs.lemmas.Bool.{cases_Bool, lt-ltb, ne_eqb, true≢false}
+use Rattle.std.proofs.lemmas.List.Elements.{All-tail}
+use Rattle.std.specs.List.{Contains}
 use Rattle.std.specs.Option.{option_to_list}
 use Rattle.timing_types.specs.declared.designs.Source.{Source}
 use Rattle.timing_types.specs.declared.designs.Source.TheVariants as source
@@ -20,9 +20,6 @@ use Rattle.flat_design.proofs.SourceFacts.{fed_cons, leads_more}
 
 -- ---- sources are within nets and pins
 
-all_tail : (P : FeedRow → Type 0) (r : FeedRow) (rows : List FeedRow) → All P (r ∷ rows) → All P rows
-all_tail P r rows all = λ k d inside. all (suc k) d (omega (arith, inside))
-
 pub fed_within : (nets pins : ℕ) (rows : List FeedRow) (net : ℕ) (f : Feeder) (rest : List Feeder) → AreWithin nets pins rows
     → fed rows net ≡ f ∷ rest → IsFeederWithin nets pins f
 fed_within nets pins [] net f rest within is = let bad : [] ≡ f ∷ rest = is in cc
@@ -37,7 +34,7 @@ fed_within nets pins (r ∷ rows) net f rest within is =
       | inr there ↦
           let e : fed rows net ≡ f ∷ rest =
           sym (fed_cons r rows net ∙ ap (λ (b : Bool). cond b (r.from ∷ fed rows net) (fed rows net)) there) ∙ is in
-          fed_within nets pins rows net f rest (all_tail (IsRowWithin nets pins) r rows within) e
+          fed_within nets pins rows net f rest (All-tail (IsRowWithin nets pins) r rows within) e
     ]
 
 -- nothing feeds a net that there is not
@@ -47,7 +44,7 @@ fed_past nets (r ∷ rows) net within past =
     let own : IsNetRow nets r = within 0 r (omega arith) in
     fed_cons r rows net
     ∙ (ap (λ (b : Bool). cond b (r.from ∷ fed rows net) (fed rows net)) (ne_eqb r.to net (λ e. omega (arith, e, own.0)))
-    ∙ fed_past nets rows net (all_tail (IsNetRow nets) r rows within) past)
+    ∙ fed_past nets rows net (All-tail (IsNetRow nets) r rows within) past)
 
 -- ---- the one source of a net
 
@@ -161,13 +158,10 @@ next_is rows marks at settled None is =
 next_is rows marks at settled (Some f) is =
     subst (λ (fs : List Feeder). NextIs rows marks at (next_of marks fs)) (sym is) (next_one rows marks at settled f is)
 
-two_more : (n : ℕ) → nat_lt 1 (suc (suc n)) ≡ true
-two_more n = grind (arith, nat_tests)
-
 one_or_none : (fs : List Feeder) → nat_lt 1 (length fs) ≡ false → (found : Option Feeder) × (fs ≡ option_to_list found)
 one_or_none [] one = (None, refl)
 one_or_none (f ∷ []) one = (Some f, refl)
-one_or_none (f ∷ g ∷ rest) one = absurd (true≢false (sym (two_more (length rest)) ∙ one))
+one_or_none (f ∷ g ∷ rest) one = absurd (true≢false (sym (lt-ltb 1 (length (f ∷ g ∷ rest)) (omega arith)) ∙ one))
 
 pub next_here : (rows : List FeedRow) (marks : List Mark) (at : ℕ)
     → ((m : ℕ) (end : Source) → mark_of marks m ≡ mark.Done end → IsSettled rows m end) → HaveOne rows

@@ -1,58 +1,36 @@
 -- Marks of nets, and what they tell once all nets are done.
-use Rattle.std.proofs.Common.{◌≡◌, ◌+◌, ◌<◌, ◌≤◌, ◌⊎◌, inl, inr, ℕ, zero, suc, Bool, true, false, List, [], ◌∷◌, get_or, length, map, replicate, set, slice_get, Some, None, refl, sym, ◌∙◌, ap, subst, arith}
+use Rattle.std.proofs.Common.{◌≡◌, ◌+◌, ◌<◌, ◌≤◌, ◌⊎◌, inl, inr, ℕ, Bool, true, false, List, get_or, length, map, replicate, set, slice_get, refl, sym, ◌∙◌, ap, subst, arith}
 use Rattle.std.proofs.lemmas.Bool.{false≢true, true≢false, cases_eq, cases_lt}
-use Rattle.std.proofs.lemmas.List.{get_or-set_same, get_or-set_other, length-replicate}
+use Rattle.std.proofs.lemmas.List.{get_or-set_same, get_or-set_other, get_or_past, get_or_read, length-map, length-replicate}
+use Rattle.std.proofs.lemmas.Option.{get_or_from_slice_get, slice_get_within}
+use Rattle.std.specs.List.{sum_by}
 use Rattle.timing_types.specs.declared.designs.Source.{Source}
 use Rattle.flat_design.specs.declared.ends.Mark.{Mark}
 use Rattle.flat_design.specs.declared.ends.Mark.TheVariants as mark
 use Rattle.flat_design.specs.declared.feeds.FeedRow.{FeedRow}
 use Rattle.flat_design.specs.SourceTable.{AreNetRows}
 use Rattle.flat_design.specs.Ends.{AreSettled, HaveEnds, IsSettled, WalksFrom, end_of, is_done, is_open, mark_of}
+use Rattle.flat_design.proofs.ApartFacts.{get_map}
 use Rattle.flat_design.proofs.EndFacts.{fed_past, none_returns}
+use Rattle.flat_design.proofs.MarkFacts.{all_new}
 
 -- ---- marks
-
-pub same_mark : (marks : List Mark) (i : ℕ) (mk : Mark) → i < length marks → mark_of (set marks i mk) i ≡ mk
-same_mark marks i mk h = get_or-set_same marks i mk mark.New h
-
-pub other_mark : (marks : List Mark) (i j : ℕ) (mk : Mark) → (i ≡ j → ⊥) → mark_of (set marks i mk) j ≡ mark_of marks j
-other_mark marks i j mk apart = get_or-set_other marks i j mk mark.New (λ e. apart (sym e))
 
 -- what is marked so is marked so where the net was marked, or was so before
 pub marked_as : (marks : List Mark) (i : ℕ) (mk : Mark) → i < length marks → (P : Mark → Type 0) (j : ℕ) → P (mark_of (set marks i mk) j)
     → ((i ≡ j) × P mk) ⊎ ((i ≡ j → ⊥) × P (mark_of marks j))
 marked_as marks i mk inside P j is =
     elim (cases_eq i j) [
-      | inl same ↦ inl (same, subst P (subst (λ (n : ℕ). mark_of (set marks i mk) n ≡ mk) same (same_mark marks i mk inside)) is)
-      | inr apart ↦ inr (apart, subst P (other_mark marks i j mk apart) is)
+      | inl same ↦ inl (same, subst P (subst (λ (n : ℕ). mark_of (set marks i mk) n ≡ mk) same (get_or-set_same marks i mk mark.New inside)) is)
+      | inr apart ↦ inr (apart, subst P (get_or-set_other marks i j mk mark.New (λ e. apart (sym e))) is)
     ]
-
--- and a property of marks goes over to the new ones
-pub marks_as : (marks : List Mark) (i : ℕ) (mk : Mark) → i < length marks → (P : ℕ → Mark → Type 0) → P i mk
-    → (j : ℕ) → ((i ≡ j → ⊥) → P j (mark_of marks j)) → P j (mark_of (set marks i mk) j)
-marks_as marks i mk inside P own j before =
-    elim (cases_eq i j) [
-      | inl same ↦
-          subst (λ (n : ℕ). P n (mark_of (set marks i mk) n)) same (subst (P i) (sym (same_mark marks i mk inside)) own)
-      | inr apart ↦ subst (P j) (sym (other_mark marks i j mk apart)) (before apart)
-    ]
-
-new_past : (marks : List Mark) (i : ℕ) → length marks ≤ i → mark_of marks i ≡ mark.New
-new_past [] i h = refl
-new_past (m ∷ marks) zero h = absurd (omega arith)
-new_past (m ∷ marks) (suc i) h = new_past marks i (omega arith)
 
 pub open_within : (marks : List Mark) (i : ℕ) → is_open (mark_of marks i) ≡ true → i < length marks
 open_within marks i h =
     elim (cases_lt i (length marks)) [
       | inl inside ↦ inside
-      | inr past ↦ absurd (false≢true (sym (ap is_open (new_past marks i past)) ∙ h))
+      | inr past ↦ absurd (false≢true (sym (ap is_open (get_or_past marks i mark.New past)) ∙ h))
     ]
-
-all_new : (n i : ℕ) → mark_of (replicate n mark.New) i ≡ mark.New
-all_new zero i = refl
-all_new (suc n) zero = refl
-all_new (suc n) (suc i) = all_new n i
 
 abbrev pub weight : Mark → ℕ
 weight mark.New = 2
@@ -60,13 +38,7 @@ weight mark.Open = 1
 weight (mark.Done end) = 0
 
 abbrev pub to_follow : List Mark → ℕ
-to_follow [] = 0
-to_follow (mk ∷ marks) = weight mk + to_follow marks
-
-pub weight_set : (marks : List Mark) (i : ℕ) (mk : Mark) → i < length marks → to_follow (set marks i mk) + weight (mark_of marks i) ≡ to_follow marks + weight mk
-weight_set [] i mk h = absurd (omega arith)
-weight_set (x ∷ xs) zero mk h = omega arith
-weight_set (x ∷ xs) (suc i) mk h = let e = weight_set xs i mk (omega arith) in omega (arith, e)
+to_follow marks = sum_by weight marks
 
 pub open_weight : (mk : Mark) → is_open mk ≡ true → weight mk ≡ 1
 open_weight mark.New h = absurd (false≢true h)
@@ -75,13 +47,8 @@ open_weight (mark.Done end) h = absurd (false≢true h)
 
 -- ---- all nets
 
-mark_default : (marks : List Mark) (i : ℕ) (d e : Mark) → i < length marks → get_or marks i d ≡ get_or marks i e
-mark_default [] i d e inside = absurd (omega arith)
-mark_default (mk ∷ marks) zero d e inside = refl
-mark_default (mk ∷ marks) (suc i) d e inside = mark_default marks i d e (omega arith)
-
 pub mark_here : (marks : List Mark) (net : ℕ) (mk : Mark) → net < length marks → mk ≡ get_or marks net mk → mark_of marks net ≡ mk
-mark_here marks net mk inside is = mark_default marks net mark.New mk inside ∙ sym is
+mark_here marks net mk inside is = sym (get_or_read marks net mk inside is mark.New)
 
 known_as : (mk : Mark) → is_open mk ≡ false → (mk ≡ mark.New → ⊥) → is_done mk ≡ true
 known_as mark.New quiet apart = absurd (apart refl)
@@ -116,8 +83,8 @@ new_not_done end is = cc
 pub settled_start : (rows : List FeedRow) (nets : ℕ) → AreSettled rows nets (replicate nets mark.New)
 settled_start rows nets = record {
   count = length-replicate nets mark.New;
-  quiet = λ net. ap is_open (all_new nets net);
-  settled = λ net end is. absurd (new_not_done end (sym (all_new nets net) ∙ is));
+  quiet = λ net. ap is_open (all_new nets net mark.New);
+  settled = λ net end is. absurd (new_not_done end (sym (all_new nets net mark.New) ∙ is));
 }
 
 done_end : (mk : Mark) → is_done mk ≡ true → mk ≡ mark.Done (end_of mk)
@@ -125,27 +92,19 @@ done_end mark.New h = absurd (false≢true h)
 done_end mark.Open h = absurd (false≢true h)
 done_end (mark.Done end) h = refl
 
-map_at : (marks : List Mark) (net : ℕ) (end : Source) → slice_get (map end_of marks) net ≡ Some end
-    → (net < length marks) × (end ≡ end_of (mark_of marks net))
-map_at [] net end is = let bad : None ≡ Some end = is in cc
-map_at (mk ∷ marks) zero end is = let e : Some (end_of mk) ≡ Some end = is in (omega arith, cc)
-map_at (mk ∷ marks) (suc net) end is = let r = map_at marks net end is in (omega (arith, r.0), r.1)
-
-map_length : (marks : List Mark) → length (map end_of marks) ≡ length marks
-map_length [] = refl
-map_length (mk ∷ marks) = ap suc (map_length marks)
-
 pub have_ends : (rows : List FeedRow) (nets : ℕ) (marks : List Mark) (ends : List Source) → AreNetRows nets rows → AreSettled rows nets marks
     → ((net : ℕ) → net < nets → is_done (mark_of marks net) ≡ true) → ends ≡ map end_of marks → HaveEnds rows nets ends
 have_ends rows nets marks ends within settled done same =
     let own : (net : ℕ) → net < nets → IsSettled rows net (end_of (mark_of marks net)) =
     λ net inside. settled.settled net (end_of (mark_of marks net)) (done_end (mark_of marks net) (done net inside)) in
     record {
-      count = ap length same ∙ (map_length marks ∙ settled.count);
+      count = ap length same ∙ (length-map marks end_of ∙ settled.count);
       each = λ net end there.
-          let r = map_at marks net end (ap (λ (es : List Source). slice_get es net) (sym same) ∙ there) in
-          let inside : net < nets = omega (arith, r.0, settled.count) in
-          (subst (IsSettled rows net) (sym r.1) (own net inside)).0;
+          let r = get_map end_of marks net end (ap (λ (es : List Source). slice_get es net) (sym same) ∙ there) in
+          let low = slice_get_within marks net r.0 r.1 in
+          let inside : net < nets = omega (arith, low, settled.count) in
+          let is : end_of (mark_of marks net) ≡ end = ap end_of (get_or_from_slice_get marks net r.0 mark.New r.1) ∙ sym r.2 in
+          (subst (IsSettled rows net) is (own net inside)).0;
       none = λ net.
           elim (cases_lt net nets) [
             | inl inside ↦ (own net inside).1

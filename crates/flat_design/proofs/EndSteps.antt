@@ -1,8 +1,9 @@
 -- What holds while sources are followed from a net to its end.
-use Rattle.std.proofs.Common.{◌≡◌, ◌+◌, ◌<◌, ◌⊎◌, ◌||◌, ◌==◌, inl, inr, ℕ, Bool, true, false, List, [], ◌∷◌, ◌++◌, length, set, refl, sym, ◌∙◌, ap, subst, arith}
+use Rattle.std.proofs.Common.{◌≡◌, ◌<◌, ◌⊎◌, ◌||◌, ◌==◌, inl, inr, ℕ, Bool, true, false, List, [], ◌∷◌, ◌++◌, length, set, refl, sym, ◌∙◌, ap, subst, arith}
 use Rattle.std.specs.Prelude.{⊤}
 use Rattle.std.proofs.lemmas.Bool.{false≢true, cases_eq, or_cases, or_left, eq-eqb, eqb-true}
-use Rattle.std.proofs.lemmas.List.{length-set}
+use Rattle.std.proofs.lemmas.List.{get_or-set_same, get_or-set_other, length-set}
+use Rattle.std.proofs.lemmas.List.Sums.{sum_by-set}
 use Rattle.std.specs.List.{Contains}
 use Rattle.timing_types.specs.declared.designs.Source.{Source}
 use Rattle.flat_design.specs.declared.ends.Mark.{Mark}
@@ -14,7 +15,8 @@ use Rattle.flat_design.specs.Sources.{LeadsTo, fed}
 use Rattle.flat_design.specs.Ends.{AreKept, AreSettled, IsSettled, SomeReturns, WalksFrom, is_done, is_open, mark_of}
 use Rattle.flat_design.specs.Walk.{is_in}
 use Rattle.flat_design.proofs.EndFacts.{NextIs, contains_first}
-use Rattle.flat_design.proofs.EndMarks.{marked_as, marks_as, open_weight, open_within, other_mark, same_mark, to_follow, weight, weight_set}
+use Rattle.flat_design.proofs.EndMarks.{marked_as, open_weight, open_within, to_follow, weight}
+use Rattle.flat_design.proofs.MarkFacts.{marked_more, marks_as}
 use Rattle.flat_design.proofs.SourceFacts.{leads_more}
 use Rattle.flat_design.proofs.WalkTurns.{in_other}
 
@@ -62,13 +64,6 @@ pub record Following (rows : List FeedRow) (nets start : ℕ) (old marks : List 
   pub kept : AreKept old marks
   pub started : (is_done (mark_of marks start) || is_open (mark_of marks start)) ≡ true
 
-opened_more : (marks : List Mark) (path : List ℕ) (from : ℕ) → from < length marks → ((m : ℕ) → is_open (mark_of marks m) ≡ is_in path m)
-    → (m : ℕ) → is_open (mark_of (set marks from mark.Open) m) ≡ is_in (from ∷ path) m
-opened_more marks path from inside opened m =
-    marks_as marks from mark.Open inside (λ (n : ℕ) (mk : Mark). is_open mk ≡ is_in (from ∷ path) n)
-    (sym (or_left (from == from) (is_in path from) (eq-eqb from from refl))) m
-    (λ apart. opened m ∙ sym (in_other from m path apart))
-
 not_done : (end : Source) → mark.Open ≡ mark.Done end → ⊥
 not_done end is = cc
 
@@ -86,7 +81,7 @@ kept_more : (old marks : List Mark) (from : ℕ) → from < length marks → mar
 kept_more old marks from inside new kept m h =
     elim (cases_eq from m) [
       | inl same ↦ absurd (false≢true (sym (ap is_done new) ∙ (ap (λ (n : ℕ). is_done (mark_of marks n)) same ∙ kept m h)))
-      | inr apart ↦ ap is_done (other_mark marks from m mark.Open apart) ∙ kept m h
+      | inr apart ↦ ap is_done (get_or-set_other marks from m mark.Open mark.New (λ e. apart (sym e))) ∙ kept m h
     ]
 
 pub following_start : (rows : List FeedRow) (nets start : ℕ) (old : List Mark) → AreSettled rows nets old → start < nets → mark_of old start ≡ mark.New
@@ -95,11 +90,11 @@ following_start rows nets start old settled within new =
     let inside : start < length old = omega (arith, settled.count) in
     record {
       count = length-set old start mark.Open ∙ settled.count;
-      opened = opened_more old [] start inside settled.quiet;
+      opened = marked_more is_open mark.Open mark.New refl old [] start inside settled.quiet;
       settled = settled_more rows old start inside settled.settled;
       linked = tt;
       kept = λ m h. h;
-      started = ap (λ (mk : Mark). is_done mk || is_open mk) (same_mark old start mark.Open inside);
+      started = ap (λ (mk : Mark). is_done mk || is_open mk) (get_or-set_same old start mark.Open mark.New inside);
     }
 
 pub at_within : (rows : List FeedRow) (nets start : ℕ) (old marks : List Mark) (at : ℕ) (outer : List ℕ) → Following rows nets start old marks (at ∷ outer)
@@ -112,18 +107,18 @@ pub follow_on : (rows : List FeedRow) (nets start : ℕ) (old marks : List Mark)
     → Following rows nets start old (set marks from mark.Open) (from ∷ at ∷ outer)
 follow_on rows nets start old marks at from outer so is inside = record {
   count = length-set marks from mark.Open ∙ so.count;
-  opened = opened_more marks (at ∷ outer) from inside so.opened;
+  opened = marked_more is_open mark.Open mark.New refl marks (at ∷ outer) from inside so.opened;
   settled = settled_more rows marks from inside so.settled;
   linked = (sym (so.opened from) ∙ ap is_open is.1, (is.0, so.linked));
   kept = kept_more old marks from inside is.1 so.kept;
-  started = marks_as marks from mark.Open inside
+  started = marks_as marks from mark.Open mark.New inside
       (λ (n : ℕ) (mk : Mark). n ≡ start → (is_done mk || is_open mk) ≡ true) (λ e. refl) start
       (λ apart e. so.started) refl;
 }
 
 pub follow_falls : (marks : List Mark) (from : ℕ) → from < length marks → mark_of marks from ≡ mark.New
     → to_follow (set marks from mark.Open) < to_follow marks
-follow_falls marks from inside new = omega (arith, weight_set marks from mark.Open inside, ap weight new)
+follow_falls marks from inside new = omega (arith, sum_by-set weight marks from mark.Open mark.New inside, ap weight new)
 
 same_end : (end last : Source) → mark.Done end ≡ mark.Done last → end ≡ last
 same_end end last is = cc
@@ -136,7 +131,7 @@ end_on rows nets start old marks at outer end so is =
     record {
       count = length-set marks at (mark.Done end) ∙ so.count;
       opened = λ m.
-          marks_as marks at (mark.Done end) inside (λ (n : ℕ) (mk : Mark). is_open mk ≡ is_in outer n)
+          marks_as marks at (mark.Done end) mark.New inside (λ (n : ℕ) (mk : Mark). is_open mk ≡ is_in outer n)
           (sym (path_apart rows at outer so.linked)) m (λ apart. so.opened m ∙ in_other at m outer apart);
       settled = λ m last there.
           elim (marked_as marks at (mark.Done end) inside (λ (mk : Mark). mk ≡ mark.Done last) m there) [
@@ -145,8 +140,8 @@ end_on rows nets start old marks at outer end so is =
           ];
       linked = path_outer rows at outer so.linked;
       kept = λ m h.
-          marks_as marks at (mark.Done end) inside (λ (n : ℕ) (mk : Mark). is_done mk ≡ true) refl m (λ apart. so.kept m h);
-      started = marks_as marks at (mark.Done end) inside (λ (n : ℕ) (mk : Mark). n ≡ start → (is_done mk || is_open mk) ≡ true) (λ e. refl) start
+          marks_as marks at (mark.Done end) mark.New inside (λ (n : ℕ) (mk : Mark). is_done mk ≡ true) refl m (λ apart. so.kept m h);
+      started = marks_as marks at (mark.Done end) mark.New inside (λ (n : ℕ) (mk : Mark). n ≡ start → (is_done mk || is_open mk) ≡ true) (λ e. refl) start
           (λ apart e. so.started) refl;
     }
 
@@ -155,7 +150,7 @@ pub end_falls : (rows : List FeedRow) (nets start : ℕ) (old marks : List Mark)
 end_falls rows nets start old marks at outer end so =
     let inside = at_within rows nets start old marks at outer so in
     let one = open_weight (mark_of marks at) (so.opened at ∙ or_left (at == at) (is_in outer at) (eq-eqb at at refl)) in
-    omega (arith, weight_set marks at (mark.Done end) inside, one)
+    omega (arith, sum_by-set weight marks at (mark.Done end) mark.New inside, one)
 
 -- sources come back
 pub back_returns : (rows : List FeedRow) (nets start : ℕ) (old marks : List Mark) (at : ℕ) (outer : List ℕ)

@@ -1,9 +1,10 @@
 -- How the expansion of a design begins, and what it has where it ends: all rows, or too large a design.
 use Rattle.std.proofs.Common.{◌≡◌, ◌+◌, ◌-◌, ◌*◌, ◌<◌, ◌≤◌, ◌||◌, inl, inr, ℕ, zero, suc, min, true, false, List, [], ◌∷◌, ◌++◌, map, length, take, slice_get, nat_lt, Option, Some, None, refl, sym, ◌∙◌, ap, subst, arith}
 use Rattle.std.proofs.lemmas.Bool.{le-ltb, lt-ltb, ltb-true, or_cases, or_from, or_left, or_right}
-use Rattle.std.proofs.lemmas.List.{append-nil, length-append, length-map, length_push, take_all}
+use Rattle.std.proofs.lemmas.List.{append-nil, length-append, length-map, length_push}
 use Rattle.std.proofs.lemmas.List.Folds.{list_any-append}
 use Rattle.std.proofs.lemmas.Option.{slice_get_within}
+use Rattle.std.proofs.Math.Seq.{take-length}
 use Rattle.std.specs.List.{filter_map, list_any}
 use Rattle.source_types.specs.declared.libraries.Library.{Library}
 use Rattle.source_types.specs.declared.netlists.Module.{Module}
@@ -86,9 +87,6 @@ deep modules library top layout f outer e none is =
 
 -- ---- how it ends
 
-take_whole : {X : Type 0} (xs : List X) → take (length xs) xs ≡ xs
-take_whole xs = let le : length xs ≤ length xs = omega arith in take_all (length xs) xs le
-
 pub finish : (modules : List Module) (library : Library) (top : Module) (layout : Layout) → Expanding modules library top layout []
     → is_too_large layout ≡ false → HasLayout modules library top (Some layout)
 finish modules library top layout e is =
@@ -101,10 +99,10 @@ finish modules library top layout e is =
     let cells : length layout.cells ≡ length (cells_of modules library top) =
     e.cell_count ∙ ap (λ (things : List Placed). length (filter_map (cell_at modules library) things)) all in
     let nets : layout.nets ≡ min (nets_of (spots_of modules top)) 4000002 =
-    e.nets ∙ ap (λ (things : List Spot). min (nets_of things) 4000002) (ap (λ (n : ℕ). take n (spots_of modules top)) spots ∙ take_whole (spots_of modules top)) in
+    e.nets ∙ ap (λ (things : List Spot). min (nets_of things) 4000002) (ap (λ (n : ℕ). take n (spots_of modules top)) spots ∙ take-length (spots_of modules top)) in
     let pins : layout.pins ≡ min (length (port_pins top) + pins_in (cells_of modules library top)) 4000002 =
     e.pins ∙ ap (λ (things : List PlacedCell). min (length (port_pins top) + pins_in things) 4000002)
-    (ap (λ (n : ℕ). take n (cells_of modules library top)) cells ∙ take_whole (cells_of modules library top)) in
+    (ap (λ (n : ℕ). take n (cells_of modules library top)) cells ∙ take-length (cells_of modules library top)) in
     let whole = pins_length modules library top in
     let count = ap length all in (
       or_from (nat_lt 1000000 (length f.pins)) _ (le-ltb 1000000 (length f.pins) (omega (arith, whole, pins, low.pins)))

@@ -1,9 +1,9 @@
 -- What holds of the expansion of a design at each of its turns.
-use Rattle.std.proofs.Common.{◌≡◌, ◌+◌, ◌<◌, ◌≤◌, ◌||◌, inl, inr, ℕ, suc, min, Bool, false, List, [], ◌∷◌, ◌++◌, length, take, slice_get, nat_lt, Some, refl, sym, ◌∙◌, ap, subst, arith}
+use Rattle.std.proofs.Common.{◌≡◌, ◌+◌, ◌<◌, ◌≤◌, ◌||◌, ℕ, suc, min, Bool, false, List, [], ◌∷◌, ◌++◌, length, take, slice_get, nat_lt, Some, refl, sym, ◌∙◌, ap, subst, arith}
 use Rattle.std.proofs.lemmas.Bool.{le-ltb, ltb-false, or_from, or_parts}
-use Rattle.std.proofs.lemmas.List.{append_assoc, length-append, length_push}
+use Rattle.std.proofs.lemmas.List.{append_assoc, length_push}
 use Rattle.std.proofs.lemmas.List.Folds.{list_any-append}
-use Rattle.std.specs.List.{filter_map, flat_map, list_any}
+use Rattle.std.specs.List.{filter_map, list_any}
 use Rattle.source_types.specs.declared.fault_kinds.DesignKind.{DesignKind}
 use Rattle.source_types.specs.declared.libraries.Library.{Library}
 use Rattle.source_types.specs.declared.library_cells.LibCell.{LibCell}
@@ -23,7 +23,7 @@ use Rattle.flat_design.specs.Expansion.{begun, frame_after, outer_of, turn_at}
 use Rattle.flat_design.specs.Layout.{AreCells, AreSpots, IsCell, IsSpot, capped, is_too_large, kind_pins, nets_of, pins_in, with_cell, with_spot}
 use Rattle.flat_design.specs.Steps.{all_steps}
 use Rattle.flat_design.proofs.LeftOver.{IsNext, Left, Turned, turned}
-use Rattle.flat_design.proofs.PlaceFacts.{filter_skip, filter_split, flat_one, get_middle, get_push, kept_at}
+use Rattle.flat_design.proofs.PlaceFacts.{each_push, filter_skip, filter_split, get_middle, kept_at, parts_more}
 use Rattle.flat_design.proofs.StepMeanings.{cell_here}
 
 abbrev pub is_deep : Placed → Bool
@@ -81,34 +81,6 @@ sum_capped n all more whole w is next same = omega (arith, is, next, same)
 -- a count of nets that is capped itself
 pub sum_capped_twice : (n all more whole w : ℕ) → n ≡ min all 4000002 → whole ≡ all + more → w ≡ min more 4000002 → min (n + w) 4000002 ≡ min whole 4000002
 sum_capped_twice n all more whole w is next same = omega (arith, is, next, same)
-
--- the parts of one more thing, counted
-pub parts_more : {X Y : Type 0} (f : X → List Y) (xs : List X) (n : ℕ) (x : X) → slice_get xs n ≡ Some x
-    → length (flat_map f (take (n + 1) xs)) ≡ length (flat_map f (take n xs)) + length (f x)
-parts_more f xs n x at =
-    let e = ap length (flat_one f xs n x at) in
-    let a = length-append (flat_map f (take n xs)) (f x ++ []) in
-    let b = length-append (f x) [] in
-    omega (arith, e, a, b)
-
--- ---- rows
-
--- one more row of cells
-cells_more : (library : Library) (spots : List Spot) (cells : List PlacedCell) (ports : ℕ) (rows : List CellRow) (row : CellRow)
-    → AreCells library spots cells ports rows → IsCell library spots cells ports (length rows) row → AreCells library spots cells ports (rows ++ row ∷ [])
-cells_more library spots cells ports rows row old new place r at =
-    elim (get_push rows row place r at) [
-      | inl before ↦ old place r before
-      | inr last ↦ subst (λ (n : ℕ). IsCell library spots cells ports n r) (sym last.0) (subst (IsCell library spots cells ports (length rows)) last.1 new)
-    ]
-
-spots_more : (modules : List Module) (spots : List Spot) (rows : List SpotRow) (row : SpotRow)
-    → AreSpots modules spots rows → IsSpot modules spots (length rows) row → AreSpots modules spots (rows ++ row ∷ [])
-spots_more modules spots rows row old new place r at =
-    elim (get_push rows row place r at) [
-      | inl before ↦ old place r before
-      | inr last ↦ subst (λ (n : ℕ). IsSpot modules spots n r) (sym last.0) (subst (IsSpot modules spots (length rows)) last.1 new)
-    ]
 
 shallow_more : (seen : List Placed) (placed : Placed) → list_any is_deep seen ≡ false → level placed ≤ 100 → list_any is_deep (seen ++ placed ∷ []) ≡ false
 shallow_more seen placed before low =
@@ -193,7 +165,7 @@ turn_cell modules library top layout f outer kind pins e none fit is counts =
           omega (arith, old, new, kept));
       count = omega (arith, longer, seen_more, e.count);
       spots = e.spots;
-      cells = cells_more library (spots_of modules top) cells ports layout.cells row e.cells (record {
+      cells = each_push (IsCell library (spots_of modules top) cells ports) layout.cells row e.cells (record {
         cell = here;
         at = at;
         is = next.is;
@@ -244,7 +216,7 @@ turn_enter modules library top layout f outer p nets e none fit is counts =
           omega (arith, old, new, kept));
       cell_count = e.cell_count ∙ ap (λ (xs : List PlacedCell). length xs) (sym (filter_skip (cell_at modules library) e.seen placed t.4.2));
       count = omega (arith, longer, seen_more, e.count);
-      spots = spots_more modules spots layout.spots row e.spots (record {
+      spots = each_push (IsSpot modules spots) layout.spots row e.spots (record {
         spot = inner;
         at = at;
         body = t.4.1;

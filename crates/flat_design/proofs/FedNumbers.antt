@@ -1,8 +1,9 @@
 -- The sources of a net, and what feeds it by its number: one for one, since a net has one number.
-use Rattle.std.proofs.Common.{◌≡◌, ◌&&◌, ℕ, Bool, true, false, true≢false, cond, Decides, List, [], ◌∷◌, filter, length, map, nat_eq, slice_get, Option, Some, None, refl, sym, ◌∙◌, ap, subst, eqb-true, eq-eqb}
+use Rattle.std.proofs.Common.{◌≡◌, ◌&&◌, ℕ, Bool, true, false, true≢false, cond, Decides, List, [], ◌∷◌, filter, length, map, nat_eq, Option, Some, None, refl, sym, ◌∙◌, ap, subst, eqb-true, eq-eqb}
 use Rattle.std.proofs.lemmas.Bool.Decides.{Decides-and, Decides-eqb, Decides-like, same_from_decides}
-use Rattle.std.proofs.lemmas.Option.{get_or_from_slice_get, slice_get-get_or, slice_get_within}
+use Rattle.std.proofs.lemmas.Option.{none-some, same_Some}
 use Rattle.std.proofs.lemmas.Slice.Eq.{bytes_eq-Decides}
+use Rattle.std.proofs.lemmas.Slice.Zip.{AllZip-long}
 use Rattle.std.specs.List.{AllZip, Contains, flat_map}
 use Rattle.sdc_model.specs.FlatNets.{Feed, NetBit, Origin, bit_of, net_bit, nets_in, same_index, same_net, sources}
 use Rattle.sdc_model.specs.Words.{same_text}
@@ -15,21 +16,17 @@ use Rattle.flat_design.specs.NetNumbers.{IsNumber}
 use Rattle.flat_design.specs.Sources.{fed}
 use Rattle.flat_design.proofs.BitsApart.{number_once}
 use Rattle.flat_design.proofs.HierarchyFacts.{one_at}
-use Rattle.flat_design.proofs.TerminalFacts.{zip_at, zip_length}
+use Rattle.flat_design.proofs.PlaceFacts.{contains_at, place_in}
+use Rattle.flat_design.proofs.TerminalFacts.{zip_at}
+use Rattle.flat_design.proofs.WellFormedLists.{zip_back}
 
 -- ---- nets are told apart by path, name and index
 
-no_index : (i : ℕ) → None ≡ Some i → ⊥
-no_index i bad = cc
-
-same_some : (i j : ℕ) → Some i ≡ Some j → i ≡ j
-same_some i j e = cc
-
 index_decides : (a b : Option ℕ) → Decides (same_index a b) (a ≡ b)
 index_decides None None = (λ e. refl, λ e. refl)
-index_decides (Some i) (Some j) = (λ e. ap (λ (n : ℕ). Some n) (eqb-true i j e), λ e. eq-eqb i j (same_some i j e))
-index_decides None (Some j) = (λ e. absurd (true≢false (sym e)), λ e. absurd (no_index j e))
-index_decides (Some i) None = (λ e. absurd (true≢false (sym e)), λ e. absurd (no_index i (sym e)))
+index_decides (Some i) (Some j) = (λ e. ap (λ (n : ℕ). Some n) (eqb-true i j e), λ e. eq-eqb i j (same_Some i j e))
+index_decides None (Some j) = (λ e. absurd (true≢false (sym e)), λ e. absurd (none-some j e))
+index_decides (Some i) None = (λ e. absurd (true≢false (sym e)), λ e. absurd (none-some i (sym e)))
 
 one_net : (a b : NetBit) → a.path ≡ b.path → a.name ≡ b.name → a.index ≡ b.index → a ≡ b
 one_net a b path name index =
@@ -81,37 +78,24 @@ sources_fed design (one ∷ feeds) (row ∷ rows) n bit is all at =
 pub sources_count : (design : Hierarchy) (feeds : List Feed) (rows : List FeedRow) (n : ℕ) (bit : NetBit) → IsHierarchy design → AllZip (IsFeed design) feeds rows
     → IsNumber (spots_in design) n bit → length (sources feeds bit) ≡ length (fed rows n)
 sources_count design feeds rows n bit is all at =
-    zip_length (IsFeeder design) (sources feeds bit) (fed rows n) (sources_fed design feeds rows n bit is all at)
+    sym (AllZip-long (IsFeeder design) (sources feeds bit) (fed rows n) (sources_fed design feeds rows n bit is all at))
 
 -- ---- a source among those of a net
-
-zip_back : {A B : Type 0} (R : A → B → Type 0) (xs : List A) (ys : List B) → AllZip R xs ys → AllZip (λ y x. R x y) ys xs
-zip_back R [] [] all = tt
-zip_back R [] (y ∷ ys) all = absurd all
-zip_back R (x ∷ xs) [] all = absurd all
-zip_back R (x ∷ xs) (y ∷ ys) all = (all.0, zip_back R xs ys all.1)
-
-among : {X : Type 0} (xs : List X) (n : ℕ) (x : X) → slice_get xs n ≡ Some x → Contains xs x
-among xs n x at = (n, slice_get_within xs n x at, get_or_from_slice_get xs n x x at)
-
-place_of_one : {X : Type 0} (xs : List X) (x : X) → Contains xs x → (n : ℕ) × (slice_get xs n ≡ Some x)
-place_of_one xs x has = (has.0, slice_get-get_or xs has.0 x has.1 ∙ ap (λ y. Some y) has.2)
 
 -- each source is one by its number
 pub fed_there : (design : Hierarchy) (feeds : List Feed) (rows : List FeedRow) (n : ℕ) (bit : NetBit) (origin : Origin) → IsHierarchy design
     → AllZip (IsFeed design) feeds rows → IsNumber (spots_in design) n bit → Contains (sources feeds bit) origin
     → (own : Feeder) × Contains (fed rows n) own × IsFeeder design origin own
 fed_there design feeds rows n bit origin is all at has =
-    let here = place_of_one (sources feeds bit) origin has in
+    let here = place_in (sources feeds bit) origin has in
     let found = zip_at (IsFeeder design) (sources feeds bit) (fed rows n) (sources_fed design feeds rows n bit is all at) here.0 origin here.1 in
-    (found.0, among (fed rows n) here.0 found.0 found.1, found.2)
+    (found.0, contains_at (fed rows n) here.0 found.0 found.1, found.2)
 
 -- each one by number is a source
 pub source_there : (design : Hierarchy) (feeds : List Feed) (rows : List FeedRow) (n : ℕ) (bit : NetBit) (own : Feeder) → IsHierarchy design
     → AllZip (IsFeed design) feeds rows → IsNumber (spots_in design) n bit → Contains (fed rows n) own
     → (origin : Origin) × Contains (sources feeds bit) origin × IsFeeder design origin own
 source_there design feeds rows n bit own is all at has =
-    let here = place_of_one (fed rows n) own has in
-    let back = zip_back (IsFeeder design) (sources feeds bit) (fed rows n) (sources_fed design feeds rows n bit is all at) in
-    let found = zip_at (λ (f : Feeder) (o : Origin). IsFeeder design o f) (fed rows n) (sources feeds bit) back here.0 own here.1 in
-    (found.0, among (sources feeds bit) here.0 found.0 found.1, found.2)
+    let here = place_in (fed rows n) own has in
+    let found = zip_back (IsFeeder design) (sources feeds bit) (fed rows n) (sources_fed design feeds rows n bit is all at) here.0 own here.1 in
+    (found.0, contains_at (sources feeds bit) here.0 found.0 found.1, found.2)

@@ -1,39 +1,22 @@
 -- The cells of a design, with the numbers of their first pins.
-use Rattle.std.proofs.Common.{◌≡◌, ◌+◌, ◌<◌, ◌≤◌, ℕ, zero, suc, List, [], ◌∷◌, ◌++◌, length, map, take, slice_get, Some, None, refl, sym, ◌∙◌, ap, subst, arith}
+use Rattle.std.proofs.Common.{◌≡◌, ◌+◌, ◌<◌, ◌≤◌, ℕ, List, [], ◌∷◌, ◌++◌, length, map, take, slice_get, Some, sym, ◌∙◌, ap, subst, arith}
 use Rattle.std.proofs.lemmas.List.{length-append, length-map, length-take, take_all}
 use Rattle.std.proofs.lemmas.Option.{slice_get_within}
-use Rattle.std.specs.List.{AllZip, flat_map}
+use Rattle.std.proofs.lemmas.Slice.Zip.{AllZip-long}
+use Rattle.std.specs.List.{AllZip}
 use Rattle.timing_types.specs.declared.designs.CellInfo.{CellInfo}
-use Rattle.sdc_model.specs.FlatDesign.{FlatCell, IsCell, cells_from, port_pins}
-use Rattle.sdc_model.specs.Instances.{PlacedCell}
+use Rattle.sdc_model.specs.FlatDesign.{FlatCell, IsCell, port_pins}
 use Rattle.flat_design.specs.declared.hierarchy.Hierarchy.{Hierarchy}
 use Rattle.flat_design.specs.declared.layout.CellRow.{CellRow}
 use Rattle.flat_design.specs.Hierarchy.{IsHierarchy, cell_name, cells_in}
 use Rattle.flat_design.specs.Layout.{kind_pins, pins_in}
-use Rattle.flat_design.specs.PinRows.{flat_of}
-use Rattle.flat_design.proofs.AddedFeeds.{both_append}
+use Rattle.flat_design.specs.NamedFaults.{flat_of}
+use Rattle.flat_design.proofs.CellPlaces.{cell_there, cells_count, flat_cell}
 use Rattle.flat_design.proofs.HierarchyFacts.{one_at}
 use Rattle.flat_design.proofs.PinCounts.{parts_le}
 use Rattle.flat_design.proofs.PlaceFacts.{get_within, take_one}
 use Rattle.flat_design.proofs.RangeFacts.{map_at}
-use Rattle.flat_design.proofs.TerminalFacts.{zip_length}
-
--- a cell with the number of its first pin
-abbrev pub with_first : PlacedCell → ℕ → FlatCell
-with_first cell first = record { is = cell; first = first }
-
-pub first_at : (first : ℕ) (cells : List PlacedCell) (n : ℕ) (cell : PlacedCell) → slice_get cells n ≡ Some cell
-    → slice_get (cells_from first cells) n ≡ Some (with_first cell (first + pins_in (take n cells)))
-first_at first [] n cell at = let bad : None ≡ Some cell = at in cc
-first_at first (c ∷ cells) zero cell at =
-    let e : Some c ≡ Some cell = at in
-    let same : c ≡ cell = cc in
-    let plus : first ≡ first + pins_in [] = omega arith in
-    ap (λ (one : PlacedCell). Some (with_first one first)) same ∙ ap (λ (k : ℕ). Some (with_first cell k)) plus
-first_at first (c ∷ cells) (suc n) cell at =
-    let own = length-append (kind_pins c) (flat_map kind_pins (take n cells)) in
-    let plus : first + length c.kind.pins + pins_in (take n cells) ≡ first + pins_in (c ∷ take n cells) = omega (arith, own) in
-    first_at (first + length c.kind.pins) cells n cell at ∙ ap (λ (k : ℕ). Some (with_first cell k)) plus
+use Rattle.flat_design.proofs.RowFacts.{both_append}
 
 -- what a row says of a cell
 pub record IsRowOf (design : Hierarchy) (n : ℕ) (cell : FlatCell) (row : CellRow) : Type 0 where
@@ -45,8 +28,8 @@ pub row_is : (design : Hierarchy) (n : ℕ) (cell : FlatCell) (row : CellRow) �
     → slice_get (flat_of design).cells n ≡ Some cell → IsRowOf design n cell row
 row_is design n cell row is row_at at =
     let known = is.layout.cells n row row_at in
-    let own = first_at (length (port_pins design.top.now)) (cells_in design) n known.cell known.at in
-    let same : with_first known.cell (length (port_pins design.top.now) + pins_in (take n (cells_in design))) ≡ cell = one_at (flat_of design).cells n _ _ own at in
+    let own = cell_there (length (port_pins design.top.now)) (cells_in design) n known.cell known.at in
+    let same : flat_cell known.cell (length (port_pins design.top.now) + pins_in (take n (cells_in design))) ≡ cell = one_at (flat_of design).cells n _ _ own at in
     record {
       is = known.at ∙ ap (λ (one : FlatCell). Some one.is) same;
       kind = known.kind ∙ ap (λ (one : FlatCell). Some one.is.kind) same;
@@ -64,10 +47,6 @@ first_low design n row is row_at =
     let all = is.layout.pins in
     let few = is.layout.few_pins in
     omega (arith, part, own, all, few)
-
-cells_count : (first : ℕ) (cells : List PlacedCell) → length (cells_from first cells) ≡ length cells
-cells_count first [] = refl
-cells_count first (cell ∷ cells) = let rest = cells_count (first + length cell.kind.pins) cells in omega (arith, rest)
 
 pub flat_count : (design : Hierarchy) → length (flat_of design).cells ≡ length (cells_in design)
 flat_count design = cells_count (length (port_pins design.top.now)) (cells_in design)
@@ -87,9 +66,9 @@ next_cell design names n name is named at =
     let count = is.layout.cell_count in
     let found = get_within (cells_in design) n (omega (arith, low, a, b)) in
     let own = map_at cell_name (cells_in design) n found.0 found.1 in (
-      with_first found.0 (length (port_pins design.top.now) + pins_in (take n (cells_in design))),
+      flat_cell found.0 (length (port_pins design.top.now) + pins_in (take n (cells_in design))),
       record {
-        at = first_at (length (port_pins design.top.now)) (cells_in design) n found.0 found.1;
+        at = cell_there (length (port_pins design.top.now)) (cells_in design) n found.0 found.1;
         named = one_at names n name (cell_name found.0) at (ap (λ (ns : List (List ℕ)). slice_get ns n) named ∙ own);
         low = omega (arith, low, a, b, count);
       },
@@ -99,7 +78,7 @@ next_cell design names n name is named at =
 pub made_count : (design : Hierarchy) (n : ℕ) (made : List CellInfo) → n ≤ length (cells_in design)
     → AllZip (IsCell design.library.now) (take n (flat_of design).cells) made → length made ≡ n
 made_count design n made low all =
-    let a = zip_length (IsCell design.library.now) (take n (flat_of design).cells) made all in
+    let a = AllZip-long (IsCell design.library.now) (take n (flat_of design).cells) made all in
     let b = length-take n (flat_of design).cells in
     let c = flat_count design in
     omega (arith, low, a, b, c)

@@ -1,15 +1,13 @@
 -- Rows and what they are rows of, place by place.
-use Rattle.std.proofs.Common.{◌≡◌, ◌+◌, ◌++◌, ◌<◌, ℕ, zero, suc, List, [], ◌∷◌, map, length, take, slice_get, Option, Some, None, sym, ◌∙◌, ap, subst, arith}
-use Rattle.std.proofs.lemmas.List.{map-append}
+use Rattle.std.proofs.Common.{◌≡◌, ◌<◌, ℕ, zero, suc, List, [], ◌∷◌, map, length, take, slice_get, Option, Some, None, sym, ◌∙◌, ap, subst, arith}
 use Rattle.std.proofs.lemmas.Option.{slice_get_within}
 use Rattle.source_types.specs.declared.netlists.Instance.{Instance}
 use Rattle.source_types.specs.declared.netlists.Module.{Module}
-use Rattle.sdc_model.specs.Instances.{Placed, PlacedCell, Spot}
+use Rattle.sdc_model.specs.Instances.{Placed, Spot}
 use Rattle.flat_design.specs.declared.layout.Outer.{Outer}
 use Rattle.flat_design.specs.declared.layout.SpotRow.{SpotRow}
-use Rattle.flat_design.specs.Hierarchy.{cell_name, prefix_in}
+use Rattle.flat_design.specs.Hierarchy.{prefix_in}
 use Rattle.flat_design.specs.Layout.{IsEarlier, IsOpened, IsOpenedBy, IsPlaced, IsSpot}
-use Rattle.flat_design.proofs.PlaceFacts.{take_one}
 use Rattle.flat_design.proofs.RangeFacts.{map_at}
 
 -- one thing stands at one place
@@ -68,19 +66,3 @@ pub prefix_there : (prefixes : List (List ℕ)) (spots : List Spot) (k : ℕ) (s
     → slice_get spots k ≡ Some spot → slice_get prefixes k ≡ Some text → text ≡ spot.prefix
 prefix_there prefixes spots k spot text same at read =
     one_at prefixes k text spot.prefix read (ap (λ (xs : List (List ℕ)). slice_get xs k) same ∙ map_at prefix_in spots k spot at)
-
--- one more prefix
-pub prefixes_more : (spots : List Spot) (before : List (List ℕ)) (n : ℕ) (spot : Spot) (prefix : List ℕ) → slice_get spots n ≡ Some spot → prefix ≡ spot.prefix
-    → before ≡ map prefix_in (take n spots) → before ++ prefix ∷ [] ≡ map prefix_in (take (n + 1) spots)
-prefixes_more spots before n spot prefix at is so_far =
-    ap (λ (xs : List (List ℕ)). xs ++ prefix ∷ []) so_far
-    ∙ (ap (λ (p : List ℕ). map prefix_in (take n spots) ++ p ∷ []) is
-    ∙ (sym (map-append prefix_in (take n spots) (spot ∷ [])) ∙ ap (map prefix_in) (sym (take_one spots n spot at))))
-
--- one more cell's name
-pub names_of_more : (cells : List PlacedCell) (before : List (List ℕ)) (n : ℕ) (cell : PlacedCell) (name : List ℕ) → slice_get cells n ≡ Some cell
-    → name ≡ cell_name cell → before ≡ map cell_name (take n cells) → before ++ name ∷ [] ≡ map cell_name (take (n + 1) cells)
-names_of_more cells before n cell name at is so_far =
-    ap (λ (xs : List (List ℕ)). xs ++ name ∷ []) so_far
-    ∙ (ap (λ (p : List ℕ). map cell_name (take n cells) ++ p ∷ []) is
-    ∙ (sym (map-append cell_name (take n cells) (cell ∷ [])) ∙ ap (map cell_name) (sym (take_one cells n cell at))))

@@ -3,6 +3,7 @@ use Rattle.std.proofs.Common.{◌≡◌, ◌+◌, ◌||◌, ◌==◌, inl, inr, 
 use Rattle.std.specs.Prelude.{⊤}
 use Rattle.std.proofs.lemmas.Bool.{cases_eq, cond-false, cond-true, eq-eqb, false_from_ne_true, ne_eqb}
 use Rattle.std.proofs.lemmas.List.{map-append}
+use Rattle.std.proofs.lemmas.List.Elements.{filter_map-append}
 use Rattle.std.proofs.lemmas.Option.{get_or_from_slice_get}
 use Rattle.std.proofs.lemmas.Slice.Eq.{bytes_eq-Decides}
 use Rattle.std.specs.List.{cons_option, enumerate_from, filter_map, flat_map, list_any}
@@ -99,14 +100,6 @@ placed_faults modules library all = filter_map (placed_fault modules library) al
 -- what is listed for an instance: itself, and those in the module that it enters
 abbrev pub listed : List Module → ℕ → Placed → List Placed
 listed modules levels placed = placed ∷ elim (entered modules placed) [ None ↦ [] | Some inner ↦ below modules levels inner ]
-
-cons_append : {Y : Type 0} (o : Option Y) (whole front back : List Y) → whole ≡ front ++ back → cons_option o whole ≡ cons_option o front ++ back
-cons_append None whole front back e = e
-cons_append (Some y) whole front back e = ap (λ zs. y ∷ zs) e
-
-pub filter_append : {X Y : Type 0} (f : X → Option Y) (xs ys : List X) → filter_map f (xs ++ ys) ≡ filter_map f xs ++ filter_map f ys
-filter_append f [] ys = refl
-filter_append f (x ∷ xs) ys = cons_append (f x) (filter_map f (xs ++ ys)) (filter_map f xs) (filter_map f ys) (filter_append f xs ys)
 
 -- the fault of an instance of a cell, or of nothing
 cell_fault_denoted : (modules : List Module) (inner : ℕ → List FaultAt) (around : List ℕ) (m place line kind : ℕ)
@@ -221,7 +214,7 @@ rest_faults modules library distinct levels inner around m spot body named withi
     let behind = flat_map (listed modules levels) (map (λ (item : ℕ × Instance). placed_at spot item.0 item.1) (enumerate_from (place + 1) rest)) in
     let later = faults_along inner around m (place + 1) (map (step_of modules library) rest) in
     let here = faults_at inner around m place (step_of modules library one) in
-    filter_append (placed_fault modules library) (listed modules levels (placed_at spot place one)) behind
+    filter_map-append (placed_fault modules library) (listed modules levels (placed_at spot place one)) behind
     ∙ (ap (λ (xs : List (At DesignKind)). xs ++ placed_faults modules library behind)
     (one_named modules library distinct levels inner around m spot named within place one line (place_of (module_names modules) one.kind) refl)
     ∙ (ap (λ (xs : List (At DesignKind)). map (denoted modules) here ++ xs)

@@ -23,6 +23,7 @@ use Rattle.flat_design.specs.Layout.{IsPlaced}
 use Rattle.flat_design.specs.Steps.{all_steps, step_of, steps_in}
 use Rattle.flat_design.specs.Walk.{steps_of}
 use Rattle.flat_design.proofs.InstanceFaults.{listed, placed_at, steps_at}
+use Rattle.flat_design.proofs.PlaceFacts.{drop_one}
 use Rattle.flat_design.proofs.StepMeanings.{Means, cell_here, step_means}
 
 -- ---- the instances of a module from a place on
@@ -45,13 +46,6 @@ drop_past [] (suc n) none = refl
 drop_past (x ∷ xs) zero none = let bad : Some x ≡ None = none in cc
 drop_past (x ∷ xs) (suc n) none = drop_past xs n none
 
-drop_at : {X : Type 0} (xs : List X) (n : ℕ) (x : X) → slice_get xs n ≡ Some x → drop n xs ≡ x ∷ drop (n + 1) xs
-drop_at [] n x at = let bad : None ≡ Some x = at in cc
-drop_at (y ∷ ys) zero x at = let e : Some y ≡ Some x = at in let same : y ≡ x = cc in ap (λ z. z ∷ ys) same
-drop_at (y ∷ ys) (suc n) x at =
-    let e : suc n + 1 ≡ suc (n + 1) = omega arith in
-    drop_at ys n x at ∙ ap (λ (k : ℕ). x ∷ drop k (y ∷ ys)) (sym e)
-
 below_end : (modules : List Module) (levels : ℕ) (spot : Spot) (next : ℕ) → slice_get spot.body.instances next ≡ None → below_from modules levels spot next ≡ []
 below_end modules zero spot next none = refl
 below_end modules (suc levels) spot next none =
@@ -60,7 +54,7 @@ below_end modules (suc levels) spot next none =
 below_next : (modules : List Module) (levels : ℕ) (spot : Spot) (next : ℕ) (one : Instance) → slice_get spot.body.instances next ≡ Some one
     → below_from modules (suc levels) spot next ≡ listed modules levels (placed_at spot next one) ++ below_from modules (suc levels) spot (next + 1)
 below_next modules levels spot next one at =
-    ap (λ (rest : List Instance). flat_map (listed modules levels) (placed_from spot next rest)) (drop_at spot.body.instances next one at)
+    ap (λ (rest : List Instance). flat_map (listed modules levels) (placed_from spot next rest)) (drop_one spot.body.instances next one at)
 
 -- ---- what is left
 

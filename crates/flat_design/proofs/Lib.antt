@@ -28,6 +28,7 @@ mod HierarchyFacts
 mod InstanceFaults
 mod LaidOut
 mod LeftOver
+mod MarkFacts
 mod NameFacts
 mod NamedFits
 mod NetEndFacts

@@ -1,6 +1,7 @@
 -- The names of nets, module by module and bit by bit.
 use Rattle.std.proofs.Common.{◌≡◌, ◌+◌, ◌++◌, ◌≤◌, ℕ, List, [], ◌∷◌, map, length, take, slice_get, Option, Some, refl, sym, ◌∙◌, ap, arith}
 use Rattle.std.proofs.lemmas.List.{append_assoc, append-nil, length-map, map-append, take_all}
+use Rattle.std.proofs.lemmas.Simd.{map-map}
 use Rattle.std.specs.List.{flat_map}
 use Rattle.source_types.specs.declared.netlists.Range.{Range}
 use Rattle.source_types.specs.declared.netlists.Wire.{Wire}
@@ -12,7 +13,6 @@ use Rattle.flat_design.proofs.BitsApart.{net_of}
 use Rattle.flat_design.proofs.CountFacts.{indices_length}
 use Rattle.flat_design.proofs.PlaceFacts.{flat_one, take_one}
 use Rattle.flat_design.proofs.RangeFacts.{map_at}
-use Rattle.flat_design.proofs.TerminalFacts.{map_twice}
 
 pub map_flat : {A B C : Type 0} (g : B → C) (f : A → List B) (xs : List A) → map g (flat_map f xs) ≡ flat_map (λ x. map g (f x)) xs
 map_flat g f [] = refl
@@ -26,7 +26,7 @@ pub names_in : (spot : Spot) → map net_name (nets_in spot) ≡ flat_map (wire_
 names_in spot =
     map_flat net_name (wire_nets spot) spot.body.nets
     ∙ same_flat (λ (wire : Wire). map net_name (wire_nets spot wire)) (wire_names spot.prefix)
-    (λ wire. map_twice net_name (net_of spot wire) (indices wire.range)) spot.body.nets
+    (λ wire. map-map net_name (net_of spot wire) (indices wire.range)) spot.body.nets
 
 -- the names of one more module
 pub names_more : (spots : List Spot) (n : ℕ) (spot : Spot) (names : List (List ℕ)) (prefix : List ℕ) (nets : List Wire)

@@ -1,7 +1,9 @@
 -- Connections by name, each the first of its name by the places of all names.
 use Rattle.std.proofs.Common.{◌≡◌, ◌+◌, ◌&&◌, ◌||◌, ◌==◌, inl, inr, ℕ, suc, Bool, true, false, not, cond, List, [], ◌∷◌, ◌++◌, map, length, Option, Some, None, refl, sym, ◌∙◌, ap, arith}
 use Rattle.std.proofs.lemmas.Bool.{cases_eq, eq-eqb, ne_eqb}
+use Rattle.std.proofs.lemmas.List.{append_assoc, length_push}
 use Rattle.std.proofs.lemmas.Slice.Eq.{bytes_eq-Decides}
+use Rattle.std.proofs.Math.Bool.{and-false}
 use Rattle.indexmap.specs.IndexMap.{IndexMap, get_by}
 use Rattle.std.specs.List.{list_any}
 use Rattle.std.specs.Str.{bytes_eq}
@@ -56,22 +58,10 @@ pub any_push : (front : List (List ℕ)) (name q : List ℕ) → list_any (λ f.
 any_push [] name q = ap (λ (b : Bool). b || false) (same_swap name q)
 any_push (f ∷ front) name q = ap (λ (b : Bool). same_text f q || b) (any_push front name q) ∙ or_swap (same_text f q) (same_text q name) (list_any (λ g. same_text g q) front)
 
-and_false : (b : Bool) → false ≡ (b && false)
-and_false true = refl
-and_false false = refl
-
 -- one more connection
 one_fits : (first before own whole other : Bool) → first ≡ not before → whole ≡ other → ((first && own) && whole) ≡ (own && (not before && other))
-one_fits first true own whole other e same = ap (λ (b : Bool). (b && own) && whole) e ∙ and_false own
+one_fits first true own whole other e same = ap (λ (b : Bool). (b && own) && whole) e ∙ sym (and-false own)
 one_fits first false own whole other e same = ap (λ (b : Bool). (b && own) && whole) e ∙ ap (λ (b : Bool). own && b) same
-
-pub split_at : (front : List (List ℕ)) (name : List ℕ) (rest : List (List ℕ)) → (front ++ name ∷ []) ++ rest ≡ front ++ name ∷ rest
-split_at [] name rest = refl
-split_at (f ∷ front) name rest = ap (λ (ns : List (List ℕ)). f ∷ ns) (split_at front name rest)
-
-length_more : (front : List (List ℕ)) (name : List ℕ) → length (front ++ name ∷ []) ≡ length front + 1
-length_more [] name = refl
-length_more (f ∷ front) name = let e = length_more front name in omega arith
 
 -- connections behind others
 fits_behind : (terminals : List Terminal) (links : List Link) (front before : List (List ℕ)) (at : ℕ) (all : List (List ℕ))
@@ -88,8 +78,8 @@ fits_behind terminals (link ∷ rest) front before at all at_is all_is known =
     one_fits (stands_first (place_of all link.port) at) (list_any (same_text link.port) before) (link_fits terminals link)
     (named_from terminals all (at + 1) rest) (named_fit terminals (link.port ∷ before) rest) first
     (fits_behind terminals rest (front ++ link.port ∷ []) (link.port ∷ before) (at + 1) all
-    (ap (λ (n : ℕ). n + 1) at_is ∙ sym (length_more front link.port))
-    (all_is ∙ sym (split_at front link.port names))
+    (ap (λ (n : ℕ). n + 1) at_is ∙ sym (length_push front link.port))
+    (all_is ∙ sym (append_assoc front (link.port ∷ []) names))
     (λ q. ap (λ (b : Bool). same_text q link.port || b) (known q) ∙ sym (any_push front link.port q)))
 
 pub fits_named : (terminals : List Terminal) (links : List Link) → named_from terminals (map (λ (link : Link). link.port) links) 0 links ≡ named_fit terminals [] links

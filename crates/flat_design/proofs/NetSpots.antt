@@ -1,98 +1,44 @@
 -- The module where a net stands, by the numbers of the first nets.
-use Rattle.std.proofs.Common.{◌≡◌, ◌+◌, ◌-◌, ◌<◌, ◌≤◌, ◌⊎◌, inl, inr, ℕ, zero, suc, Bool, true, false, cond, List, [], ◌∷◌, ◌++◌, length, map, take, nat_le, slice_get, Option, Some, None, refl, sym, ◌∙◌, ap, subst, arith}
+use Rattle.std.proofs.Common.{◌≡◌, ◌+◌, ◌-◌, ◌<◌, ◌≤◌, inl, inr, ℕ, Bool, true, false, List, length, take, nat_le, slice_get, Some, sym, ◌∙◌, ap, subst, arith}
 use Rattle.std.proofs.lemmas.Bool.{cases_lt, leb-false, leb-true}
-use Rattle.std.proofs.lemmas.List.{length-append, take_all}
+use Rattle.std.proofs.lemmas.List.{take_all}
+use Rattle.std.proofs.lemmas.List.Sums.{prefix_len-le-length, prefix_len_passes, prefix_len_stops}
+use Rattle.std.proofs.lemmas.Option.{get_or_from_slice_get, slice_get_within}
 use Rattle.std.specs.List.{flat_map, prefix_len}
-use Rattle.source_types.specs.declared.netlists.Wire.{Wire}
-use Rattle.sdc_model.specs.FlatNets.{FlatNet, nets_in, wire_nets}
+use Rattle.sdc_model.specs.FlatNets.{FlatNet, nets_in}
 use Rattle.sdc_model.specs.Instances.{Spot}
-use Rattle.sdc_model.specs.Ranges.{indices}
 use Rattle.flat_design.specs.declared.hierarchy.Hierarchy.{Hierarchy}
 use Rattle.flat_design.specs.declared.layout.SpotRow.{SpotRow}
 use Rattle.flat_design.specs.Hierarchy.{IsHierarchy, spots_in}
 use Rattle.flat_design.specs.Layout.{nets_of}
+use Rattle.flat_design.proofs.BitsApart.{net_spot}
 use Rattle.flat_design.proofs.HierarchyFacts.{one_at}
 use Rattle.flat_design.proofs.NumberFacts.{flat_at}
-use Rattle.flat_design.proofs.PlaceFacts.{flat_one, get_within}
+use Rattle.flat_design.proofs.PlaceFacts.{get_within, parts_more}
 
 -- ---- those that come before the first one without something
 
-prefix_least : (found : Bool) (n m : ℕ) → n < cond found (1 + m) 0 → found ≡ true
-prefix_least true n m low = refl
-prefix_least false n m low = absurd (omega (arith, low))
-
-prefix_less : (found : Bool) (n m : ℕ) → suc n < cond found (1 + m) 0 → n < m
-prefix_less true n m low = omega (arith, low)
-prefix_less false n m low = absurd (omega (arith, low))
-
 -- each thing before has it
 prefix_before : {X : Type 0} (p : X → Bool) (xs : List X) (n : ℕ) (x : X) → n < prefix_len p xs → slice_get xs n ≡ Some x → p x ≡ true
-prefix_before p [] n x low at = absurd (omega (arith, low))
-prefix_before p (y ∷ xs) zero x low at =
-    let e : Some y ≡ Some x = at in
-    let same : y ≡ x = cc in
-    ap p (sym same) ∙ prefix_least (p y) zero (prefix_len p xs) low
-prefix_before p (y ∷ xs) (suc n) x low at = prefix_before p xs n x (prefix_less (p y) n (prefix_len p xs) low) at
+prefix_before p xs n x low at = ap p (sym (get_or_from_slice_get xs n x x at)) ∙ prefix_len_passes p xs n x low
 
 -- the first one behind has it not
-prefix_step : {X : Type 0} (p : X → Bool) (y : X) (xs : List X) (x : X) (found : Bool) → p y ≡ found → (slice_get xs (prefix_len p xs) ≡ Some x → p x ≡ false)
-    → slice_get (y ∷ xs) (cond found (1 + prefix_len p xs) 0) ≡ Some x → p x ≡ false
-prefix_step p y xs x true is rest at =
-    let e : 1 + prefix_len p xs ≡ suc (prefix_len p xs) = omega arith in
-    rest (ap (slice_get (y ∷ xs)) (sym e) ∙ at)
-prefix_step p y xs x false is rest at =
-    let e : Some y ≡ Some x = at in
-    let same : y ≡ x = cc in
-    ap p (sym same) ∙ is
-
 prefix_end : {X : Type 0} (p : X → Bool) (xs : List X) (x : X) → slice_get xs (prefix_len p xs) ≡ Some x → p x ≡ false
-prefix_end p [] x at = let bad : None ≡ Some x = at in cc
-prefix_end p (y ∷ xs) x at = prefix_step p y xs x (p y) refl (prefix_end p xs x) at
-
-few_step : (found : Bool) (n m : ℕ) → n ≤ m → cond found (1 + n) 0 ≤ suc m
-few_step true n m low = omega (arith, low)
-few_step false n m low = omega arith
-
-prefix_few : {X : Type 0} (p : X → Bool) (xs : List X) → prefix_len p xs ≤ length xs
-prefix_few p [] = omega arith
-prefix_few p (x ∷ xs) = few_step (p x) (prefix_len p xs) (length xs) (prefix_few p xs)
+prefix_end p xs x at =
+    ap p (sym (get_or_from_slice_get xs (prefix_len p xs) x x at)) ∙ prefix_len_stops p xs x (slice_get_within xs (prefix_len p xs) x at)
 
 -- ---- the part of a thing of joined parts
 
 part_at : {X Y : Type 0} (f : X → List Y) (xs : List X) (s n : ℕ) (x : X) (y : Y) → slice_get xs s ≡ Some x → length (flat_map f (take s xs)) ≤ n
     → n < length (flat_map f (take (s + 1) xs)) → slice_get (flat_map f xs) n ≡ Some y → (j : ℕ) × (slice_get (f x) j ≡ Some y)
 part_at f xs s n x y x_is low high y_is =
-    let more = ap length (flat_one f xs s x x_is) in
-    let a = length-append (flat_map f (take s xs)) (f x ++ []) in
-    let b = length-append (f x) [] in
+    let more = parts_more f xs s x x_is in
     let j : ℕ = n - length (flat_map f (take s xs)) in
     let same : n ≡ length (flat_map f (take s xs)) + j = omega (arith, low) in
-    let within : j < length (f x) = omega (arith, low, high, more, a, b) in
+    let within : j < length (f x) = omega (arith, low, high, more) in
     let own = get_within (f x) j within in
     let there = flat_at f xs s j x own.0 x_is own.1 in
     (j, own.1 ∙ ap (λ z. Some z) (one_at (flat_map f xs) n own.0 y (ap (slice_get (flat_map f xs)) same ∙ there) y_is))
-
--- a thing of two lists is of one
-in_either : {Y : Type 0} (xs ys : List Y) (n : ℕ) (y : Y) → slice_get (xs ++ ys) n ≡ Some y → (slice_get xs n ≡ Some y) ⊎ ((k : ℕ) × (slice_get ys k ≡ Some y))
-in_either [] ys n y at = inr (n, at)
-in_either (x ∷ xs) ys zero y at = inl at
-in_either (x ∷ xs) ys (suc n) y at = in_either xs ys n y at
-
-from_mapped : {X Y : Type 0} (f : X → Y) (xs : List X) (n : ℕ) (y : Y) → slice_get (map f xs) n ≡ Some y → (x : X) × (f x ≡ y)
-from_mapped f [] n y at = let bad : None ≡ Some y = at in cc
-from_mapped f (x ∷ xs) zero y at = let e : Some (f x) ≡ Some y = at in (x, cc)
-from_mapped f (x ∷ xs) (suc n) y at = from_mapped f xs n y at
-
--- each net of a module where it stands has that
-spot_is : (spot : Spot) (wires : List Wire) (n : ℕ) (net : FlatNet) → slice_get (flat_map (wire_nets spot) wires) n ≡ Some net → spot ≡ net.spot
-spot_is spot [] n net at = let bad : None ≡ Some net = at in cc
-spot_is spot (wire ∷ wires) n net at =
-    elim (in_either (wire_nets spot wire) (flat_map (wire_nets spot) wires) n net at) [
-      | inl own ↦
-          let index = from_mapped (λ (index : Option ℕ). record { spot = spot; wire = wire; index = index }) (indices wire.range) n net own in
-          ap (λ (one : FlatNet). one.spot) index.1
-      | inr other ↦ spot_is spot wires other.0 net other.1
-    ]
 
 -- ---- the module of a net
 
@@ -140,7 +86,7 @@ found_in : (spots : List Spot) (s net : ℕ) (spot : Spot) (found : FlatNet) →
     → net < nets_of (take (s + 1) spots) → slice_get (flat_map nets_in spots) net ≡ Some found → slice_get spots s ≡ Some found.spot
 found_in spots s net spot found spot_at low high at =
     let own = part_at nets_in spots s net spot found spot_at low high at in
-    subst (λ (one : Spot). slice_get spots s ≡ Some one) (spot_is spot spot.body.nets own.0 found own.1) spot_at
+    subst (λ (one : Spot). slice_get spots s ≡ Some one) (sym (net_spot spot own.0 found own.1)) spot_at
 
 pub spot_found : (design : Hierarchy) (net : ℕ) (found : FlatNet) → IsHierarchy design → net < design.layout.nets → slice_get (flat_map nets_in (spots_in design)) net ≡ Some found
     → slice_get (spots_in design) (begun_by net design.layout.spots - 1) ≡ Some found.spot
@@ -149,7 +95,7 @@ spot_found design net found is low at =
     let spots = spots_in design in
     let s : ℕ = begun_by net rows - 1 in
     let one = one_begun design net is in
-    let few = prefix_few (λ (row : SpotRow). nat_le row.first_net net) rows in
+    let few = prefix_len-le-length (λ (row : SpotRow). nat_le row.first_net net) rows in
     let next : s + 1 ≡ begun_by net rows = omega (arith, one) in
     let row = get_within rows s (omega (arith, one, few)) in
     let known = is.layout.spots s row.0 row.1 in

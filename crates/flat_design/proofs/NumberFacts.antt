@@ -4,9 +4,9 @@ use Rattle.std.proofs.lemmas.Bool.{cond-false, cond-true, le-leb, lt-leb}
 use Rattle.std.proofs.lemmas.List.{length-append, length-map}
 use Rattle.std.proofs.lemmas.List.Concat.{length-flat_map}
 use Rattle.std.proofs.lemmas.List.Sums.{sum_by-cons, sum_by-take-le}
-use Rattle.std.proofs.lemmas.Option.{slice_get-get_or, slice_get_within}
+use Rattle.std.proofs.lemmas.Option.{slice_get_within}
 use Rattle.std.proofs.lemmas.Slice.Eq.{bytes_eq-Decides}
-use Rattle.std.specs.List.{Contains, flat_map, sum_by}
+use Rattle.std.specs.List.{flat_map, sum_by}
 use Rattle.source_types.specs.declared.netlists.Wire.{Wire}
 use Rattle.sdc_model.specs.FlatNets.{NetBit, bit_of, net_bit, nets_in, wire_nets}
 use Rattle.sdc_model.specs.Instances.{Spot}
@@ -20,6 +20,7 @@ use Rattle.flat_design.specs.NetNumbers.{IsNumber, net_names, net_starts}
 use Rattle.flat_design.proofs.BitsApart.{net_of}
 use Rattle.flat_design.proofs.CountFacts.{indices_length, nets_length, same_sum}
 use Rattle.flat_design.proofs.InstanceFaults.{found_at}
+use Rattle.flat_design.proofs.PlaceFacts.{place_in}
 use Rattle.flat_design.proofs.RangeFacts.{down_at, map_at, up_at}
 
 -- ---- parts that are joined
@@ -107,20 +108,16 @@ missing (first ∷ rest) q zero none at =
 missing (first ∷ rest) q (suc k) none at =
     missing rest q k (missing_step first q (same_text first q) (place_of rest q) none).1 at
 
--- a net that is contained stands somewhere
-net_at_place : (nets : List Wire) (net : Wire) → Contains nets net → (k : ℕ) × (slice_get nets k ≡ Some net)
-net_at_place nets net has = (has.0, slice_get-get_or nets has.0 net has.1 ∙ ap (λ (w : Wire). Some w) has.2)
-
 pub has_place : (nets : List Wire) (name : List ℕ) (index : Option ℕ) → IsNetBit nets name index → place_of (net_names nets) name ≡ None → ⊥
 has_place nets name index is none =
-    let at = net_at_place nets is.0 is.1 in
+    let at = place_in nets is.0 is.1 in
     missing (net_names nets) name at.0 none (map_at (λ (net : Wire). net.name) nets at.0 is.0 at.1 ∙ ap (λ (n : List ℕ). Some n) is.2)
 
 -- the net at the place of a name is the one that has it
 pub net_there : (nets : List Wire) (name : List ℕ) (index : Option ℕ) (w : ℕ) → AreDistinct (net_names nets) → (is : IsNetBit nets name index)
     → place_of (net_names nets) name ≡ Some w → slice_get nets w ≡ Some is.0
 net_there nets name index w distinct is at =
-    let here = net_at_place nets is.0 is.1 in
+    let here = place_in nets is.0 is.1 in
     let found = found_at (λ (net : Wire). net.name) nets name w at in
     let named : found.0.name ≡ name = found_name (λ (net : Wire). net.name) nets name w found.0 at found.1 in
     let a : slice_get (net_names nets) w ≡ Some name = map_at (λ (net : Wire). net.name) nets w found.0 found.1 ∙ ap (λ (n : List ℕ). Some n) named in

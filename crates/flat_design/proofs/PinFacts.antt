@@ -1,6 +1,7 @@
 -- The names of pins, port by port and cell by cell.
 use Rattle.std.proofs.Common.{◌≡◌, ◌+◌, ◌++◌, ℕ, List, [], ◌∷◌, map, length, take, slice_get, codes, Some, refl, sym, ◌∙◌, ap, arith}
 use Rattle.std.proofs.lemmas.List.{append_assoc, append-nil, map-append}
+use Rattle.std.proofs.lemmas.Simd.{map-map}
 use Rattle.std.specs.List.{enumerate_from, flat_map, zip}
 use Rattle.source_types.specs.declared.libraries.Library.{Library}
 use Rattle.source_types.specs.declared.library_cells.LibPin.{LibPin}
@@ -16,7 +17,6 @@ use Rattle.flat_design.specs.Hierarchy.{bit_names, cell_name, pin_names_in, port
 use Rattle.flat_design.proofs.NameFacts.{map_flat, same_flat}
 use Rattle.flat_design.proofs.PinCounts.{connected_length, pin_names_length}
 use Rattle.flat_design.proofs.PlaceFacts.{flat_one}
-use Rattle.flat_design.proofs.TerminalFacts.{map_twice}
 
 -- the names of the pins of a cell
 abbrev pub names_of_pins : PlacedCell → List (List ℕ)
@@ -32,7 +32,7 @@ beside g n (x ∷ xs) (y ∷ ys) same = ap (λ zs. g x ∷ zs) (beside g (n + 1)
 
 cell_names_are : (n : ℕ) (cell : PlacedCell) → map flat_pin_name (cell_pins (n, cell)) ≡ names_of_pins cell
 cell_names_are n cell =
-    map_twice flat_pin_name (cell_pin n cell) (connected_pins cell)
+    map-map flat_pin_name (cell_pin n cell) (connected_pins cell)
     ∙ beside (λ (pin : LibPin). cell_name cell ++ (codes "/" ++ pin.name)) 0 cell.kind.pins
     (connected (names_of (pins_of cell.kind)) cell.placed.instance.links)
     (connected_length (names_of (pins_of cell.kind)) cell.placed.instance.links ∙ pin_names_length cell.kind)
@@ -48,7 +48,7 @@ pub ports_names_are : (top : Module) → map flat_pin_name (port_pins top) ≡ p
 ports_names_are top =
     map_flat flat_pin_name (λ (port : Port). map (port_pin port) (indices port.range)) top.ports
     ∙ same_flat (λ (port : Port). map flat_pin_name (map (port_pin port) (indices port.range))) (λ (port : Port). bit_names [] port.name port.range)
-    (λ port. map_twice flat_pin_name (port_pin port) (indices port.range)) top.ports
+    (λ port. map-map flat_pin_name (port_pin port) (indices port.range)) top.ports
 
 pub all_names_are : (modules : List Module) (library : Library) (top : Module)
     → port_names top.ports ++ flat_map names_of_pins (cells_of modules library top) ≡ map flat_pin_name (flat modules library top).pins

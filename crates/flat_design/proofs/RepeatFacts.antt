@@ -1,6 +1,7 @@
 -- A name is the same as an earlier one where it is not the first of its name.
-use Rattle.std.proofs.Common.{◌≡◌, ◌+◌, ◌<◌, ◌||◌, inl, inr, ℕ, zero, suc, Bool, true, false, not, List, [], ◌∷◌, ◌++◌, map, length, take, drop, slice_get, Some, None, refl, sym, ◌∙◌, ap, arith}
+use Rattle.std.proofs.Common.{◌≡◌, ◌+◌, ◌<◌, ◌||◌, inl, inr, ℕ, zero, suc, Bool, not, List, [], ◌∷◌, ◌++◌, length, take, drop, slice_get, Some, None, refl, sym, ◌∙◌, ap, arith}
 use Rattle.std.proofs.lemmas.Bool.{cases_lt}
+use Rattle.std.proofs.Math.Bool.{not-not}
 use Rattle.std.specs.List.{list_any}
 use Rattle.sdc_model.specs.FlatFaults.{is_among}
 use Rattle.sdc_model.specs.Words.{same_text}
@@ -10,10 +11,6 @@ use Rattle.flat_design.proofs.NamedFits.{first_in, same_swap}
 use Rattle.flat_design.proofs.HierarchyFacts.{one_at}
 use Rattle.flat_design.proofs.NumberFacts.{front_at}
 use Rattle.flat_design.proofs.PlaceFacts.{get_middle}
-
-twice_not : (b : Bool) → not (not b) ≡ b
-twice_not true = refl
-twice_not false = refl
 
 pub any_swap : (names : List (List ℕ)) (name : List ℕ) → list_any (λ (f : List ℕ). same_text f name) names ≡ is_among names name
 any_swap [] name = refl
@@ -40,7 +37,7 @@ repeated_at names at name is =
     ap (λ (ns : List (List ℕ)). stands_first (place_of ns name) at) r.0
     ∙ (ap (λ (n : ℕ). stands_first (place_of (take at names ++ name ∷ drop (at + 1) names) name) n) (sym r.1)
     ∙ first_in (take at names) (drop (at + 1) names) name) in
-    ap not first ∙ (twice_not (list_any (λ (f : List ℕ). same_text f name) (take at names)) ∙ any_swap (take at names) name)
+    ap not first ∙ (not-not (list_any (λ (f : List ℕ). same_text f name) (take at names)) ∙ any_swap (take at names) name)
 
 -- one more
 pub repeats_more : (names : List (List ℕ)) (repeats : List Bool) (at : ℕ) (name : List ℕ) (mark : Bool) → length repeats ≡ at
@@ -58,7 +55,3 @@ repeats_more names repeats at name mark count is same before k n low here =
           ∙ (get_middle repeats mark []
           ∙ ap (λ (b : Bool). Some b) (same ∙ (ap (λ (j : ℕ). is_among (take j names) name) (sym at_k) ∙ ap (λ (m : List ℕ). is_among (take k names) m) one)))
     ]
-
-pub map_same : (names : List (List ℕ)) → map (λ (text : List ℕ). text) names ≡ names
-map_same [] = refl
-map_same (name ∷ names) = ap (λ (ns : List (List ℕ)). name ∷ ns) (map_same names)

@@ -2,9 +2,14 @@
 use Rattle.std.proofs.Common.{◌≡◌, ◌+◌, ◌++◌, ℕ, List, [], ◌∷◌, map, take, slice_get, Some, sym, ◌∙◌, ap, subst}
 use Rattle.std.proofs.lemmas.List.{append_assoc, append-nil, map-append}
 use Rattle.std.specs.List.{AllZip, flat_map}
-use Rattle.flat_design.specs.PinRows.{AddsRows}
-use Rattle.flat_design.proofs.AddedFeeds.{both_append}
+use Rattle.flat_design.specs.AddedRows.{AddsRows}
 use Rattle.flat_design.proofs.PlaceFacts.{flat_one, take_one}
+
+pub both_append : {A B : Type 0} (R : A → B → Type 0) (xs more : List A) (ys others : List B) → AllZip R xs ys → AllZip R more others → AllZip R (xs ++ more) (ys ++ others)
+both_append R [] more [] others all rest = rest
+both_append R [] more (y ∷ ys) others all rest = absurd all
+both_append R (x ∷ xs) more [] others all rest = absurd all
+both_append R (x ∷ xs) more (y ∷ ys) others all rest = (all.0, both_append R xs more ys others all.1 rest)
 
 pub rows_none : {A B : Type 0} (R : A → B → Type 0) (rows : List B) → AddsRows R [] rows rows
 rows_none R rows = ([], sym (append-nil rows), tt)

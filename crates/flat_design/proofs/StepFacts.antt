@@ -1,5 +1,5 @@
 -- The step of an instance by what the tables find of its name.
-use Rattle.std.proofs.Common.{◌≡◌, ◌<◌, ℕ, zero, suc, Bool, true, false, List, [], ◌∷◌, length, get_or, slice_get, unwrap_or, Option, Some, None, refl, sym, ◌∙◌, ap, cond, arith}
+use Rattle.std.proofs.Common.{◌≡◌, ◌<◌, ℕ, Bool, true, false, List, length, get_or, slice_get, unwrap_or, Option, Some, None, refl, sym, ◌∙◌, ap, cond}
 use Rattle.std.proofs.lemmas.Bool.{cond-true, cond-false}
 use Rattle.std.proofs.lemmas.Option.{slice_get_read, slice_get_within}
 use Rattle.source_types.specs.declared.fault_kinds.DesignKind.TheVariants as fault
@@ -74,8 +74,3 @@ step_fitting cells kind cell links fits within is supported same =
     ∙ (ap (λ (b : Bool). fault_step kind (cond b None (Some fault.WidthMismatch))) same
     ∙ (ap (fault_step kind) (sym (cond-false cell.refused _ _ supported))
     ∙ ap (λ (o : Option LibCell). cell_step kind o links) (sym (slice_get_read cells (length cells) kind cell refl within is))))
-
-pub module_there : (modules : List Module) (p : ℕ) → p < length modules → (m : Module) × (slice_get modules p ≡ Some m)
-module_there [] p within = absurd (omega (arith, within))
-module_there (m ∷ modules) zero within = (m, refl)
-module_there (m ∷ modules) (suc p) within = module_there modules p (omega (arith, within))

@@ -1,5 +1,5 @@
 -- Tables of the terminals of modules and library cells, one behind the other and by place.
-use Rattle.std.proofs.Common.{◌≡◌, ◌+◌, ◌<◌, ℕ, zero, suc, List, [], ◌∷◌, ◌++◌, map, length, take, get_or, replicate, slice_get, Some, None, refl, sym, ◌∙◌, ap, subst, arith}
+use Rattle.std.proofs.Common.{◌≡◌, ◌+◌, ◌<◌, ℕ, zero, suc, List, [], ◌∷◌, ◌++◌, map, length, take, get_or, replicate, slice_get, Some, None, refl, sym, ◌∙◌, ap, subst}
 use Rattle.std.proofs.lemmas.List.{take_more}
 use Rattle.std.proofs.lemmas.Option.{get_or_from_slice_get}
 use Rattle.std.proofs.lemmas.Slice.Zip.{all_zipped_more}
@@ -14,10 +14,6 @@ use Rattle.flat_design.specs.declared.terminals.Terminals.{Terminals}
 use Rattle.flat_design.specs.Fitting.{widths_of}
 use Rattle.flat_design.specs.Names.{IsTable}
 use Rattle.flat_design.specs.Tables.{IsTerminals}
-
-pub map_twice : {A B C : Type 0} (g : B → C) (f : A → B) (xs : List A) → map g (map f xs) ≡ map (λ x. g (f x)) xs
-map_twice g f [] = refl
-map_twice g f (x ∷ xs) = ap (λ ys. g (f x) ∷ ys) (map_twice g f xs)
 
 port_names : (ports : List Port) → names_of (map (λ (port : Port). record { name = port.name; width = width port.range }) ports) ≡ map (λ (port : Port). port.name) ports
 port_names [] = refl
@@ -67,12 +63,6 @@ zip_at R (w ∷ xs) (z ∷ ys) all zero x at =
     let one : w ≡ x = cc in
     (z, refl, subst (λ v. R v z) one all.0)
 zip_at R (w ∷ xs) (z ∷ ys) all (suc i) x at = zip_at R xs ys all.1 i x at
-
-pub zip_length : {A B : Type 0} (R : A → B → Type 0) (xs : List A) (ys : List B) → AllZip R xs ys → length xs ≡ length ys
-zip_length R [] [] all = refl
-zip_length R [] (y ∷ ys) all = absurd all
-zip_length R (x ∷ xs) [] all = absurd all
-zip_length R (x ∷ xs) (y ∷ ys) all = let e = zip_length R xs ys all.1 in omega arith
 
 -- the item that an index finds
 pub zip_read : {A B : Type 0} (R : A → B → Type 0) (xs : List A) (ys : List B) (i : ℕ) (x : A) (y : B) → AllZip R xs ys → slice_get xs i ≡ Some x

@@ -1,7 +1,7 @@
 -- The bits of a net that is tied to a value.
 use Rattle.std.proofs.Common.{◌≡◌, ◌+◌, ◌-◌, ◌<◌, inl, inr, ℕ, zero, suc, Bool, List, [], map, slice_get, Option, Some, None, refl, sym, ◌∙◌, subst, arith}
 use Rattle.std.proofs.lemmas.Bool.{cases_lt}
-use Rattle.std.proofs.lemmas.Option.{get_or_from_slice_get, slice_get_within}
+use Rattle.std.proofs.lemmas.Option.{same_Some, slice_get_within}
 use Rattle.std.specs.List.{Contains}
 use Rattle.source_types.specs.declared.netlists.Range.{Range}
 use Rattle.source_types.specs.declared.netlists.Wire.{Wire}
@@ -13,9 +13,6 @@ use Rattle.flat_design.proofs.ApartFacts.{get_map}
 use Rattle.flat_design.proofs.CountFacts.{span_length}
 use Rattle.flat_design.proofs.RangeFacts.{down_at, down_within, up_at, up_within}
 
-same_number : (a b : ℕ) → Some a ≡ Some b → a ≡ b
-same_number a b e = cc
-
 between_at : (range : Range) (place i : ℕ) → slice_get (from_to range.left range.right) place ≡ Some i → IsBetween range i
 between_at range place i at =
     let count = span_length range.left range.right in
@@ -23,11 +20,11 @@ between_at range place i at =
     let within : place < span range.left range.right = omega (arith, count, low) in
     elim (cases_lt range.right range.left) [
       | inl falls ↦
-          let own : range.left - place ≡ i = same_number (range.left - place) i (sym (down_at range.left range.right place falls within) ∙ at) in
+          let own : range.left - place ≡ i = same_Some (range.left - place) i (sym (down_at range.left range.right place falls within) ∙ at) in
           let few = down_within range.left range.right place falls within in
           inr (omega (arith, falls, own, few), omega (arith, own))
       | inr rises ↦
-          let own : range.left + place ≡ i = same_number (range.left + place) i (sym (up_at range.left range.right place rises within) ∙ at) in
+          let own : range.left + place ≡ i = same_Some (range.left + place) i (sym (up_at range.left range.right place rises within) ∙ at) in
           let few = up_within range.left range.right place rises within in
           inl (omega (arith, own), omega (arith, rises, own, few))
     ]
@@ -40,9 +37,6 @@ selects_at None (suc place) index at = let bad : None ≡ Some index = at in cc
 selects_at (Some range) place index at =
     let own = get_map (λ (i : ℕ). Some i) (from_to range.left range.right) place index at in
     subst (λ (o : Option ℕ). Selects o (Some range)) (sym own.2) (between_at range place own.0 own.1)
-
-pub contains_at : (nets : List Wire) (place : ℕ) (wire : Wire) → slice_get nets place ≡ Some wire → Contains nets wire
-contains_at nets place wire at = (place, slice_get_within nets place wire at, get_or_from_slice_get nets place wire wire at)
 
 -- each bit of a net is one of the module
 pub bit_there : (nets : List Wire) (wire : Wire) (place : ℕ) (index : Option ℕ) → Contains nets wire → slice_get (indices wire.range) place ≡ Some index

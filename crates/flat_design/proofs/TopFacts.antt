@@ -14,12 +14,11 @@ use Rattle.flat_design.specs.declared.hierarchy.Hierarchy.{Hierarchy}
 use Rattle.flat_design.specs.Feeds.{HasPort, IsPinNumber, input_feed}
 use Rattle.flat_design.specs.Hierarchy.{IsHierarchy, pins_of_design}
 use Rattle.flat_design.proofs.CountFacts.{indices_length}
-use Rattle.flat_design.proofs.ExpansionSteps.{parts_more}
 use Rattle.flat_design.proofs.NumberFacts.{flat_at, front_at}
 use Rattle.flat_design.proofs.PinCounts.{parts_le}
+use Rattle.flat_design.proofs.PlaceFacts.{contains_at, parts_more}
 use Rattle.flat_design.proofs.RangeFacts.{map_at}
 use Rattle.flat_design.proofs.TerminalFacts.{zip_at}
-use Rattle.flat_design.proofs.TieFacts.{contains_at}
 
 -- the pins of a port
 abbrev pub pins_of_port : Port → List FlatPin

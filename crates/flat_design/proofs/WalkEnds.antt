@@ -2,6 +2,7 @@
 use Rattle.std.proofs.Common.{◌≡◌, ◌+◌, ◌-◌, ◌<◌, ◌⊎◌, ◌||◌, ◌==◌, inl, inr, ℕ, zero, suc, Bool, true, false, List, [], ◌∷◌, ◌++◌, length, take, drop, set, replicate, slice_get, Option, Some, None, refl, sym, ◌∙◌, ap, subst, arith}
 use Rattle.std.proofs.lemmas.Bool.{or_cases, or_left, or_parts, or_right, eqb-false, eqb-true, eq-eqb, ne_eqb, cases_eq, cond-false}
 use Rattle.std.proofs.lemmas.List.{append-nil, length-replicate, length-set, take-append-le, take_at}
+use Rattle.std.proofs.Math.Bool.{or-false}
 use Rattle.std.specs.List.{AllByRecursion}
 use Rattle.std.specs.Option.{option_to_list}
 use Rattle.flat_design.specs.declared.walk.FaultAt.{FaultAt}
@@ -48,12 +49,8 @@ drop_get [] n x is = let e : None ≡ Some x = is in cc
 drop_get (y ∷ ys) zero x is = let e : Some y ≡ Some x = is in cc
 drop_get (y ∷ ys) (suc n) x is = drop_get ys n x is
 
-or_false : (b : Bool) → (b || false) ≡ b
-or_false true = refl
-or_false false = refl
-
 in_push_other : (xs : List ℕ) (m x : ℕ) → (m ≡ x → ⊥) → is_in (xs ++ m ∷ []) x ≡ is_in xs x
-in_push_other xs m x ne = in_push xs m x ∙ (ap (λ (b : Bool). is_in xs x || b) (ne_eqb m x ne) ∙ or_false (is_in xs x))
+in_push_other xs m x ne = in_push xs m x ∙ (ap (λ (b : Bool). is_in xs x || b) (ne_eqb m x ne) ∙ or-false (is_in xs x))
 
 in_push_same : (xs : List ℕ) (m x : ℕ) → m ≡ x → is_in (xs ++ m ∷ []) x ≡ true
 in_push_same xs m x same = in_push xs m x ∙ or_right (is_in xs x) (m == x) (eq-eqb m x same)
@@ -220,4 +217,4 @@ emptied None (f ∷ old) new none items rest = let same : suc (length old) ≡ l
 
 pub ended : (all : List (List Step)) (top : ℕ) (marks : List Mark) (order : List ℕ) → Walking all top marks order []
     → (faults_below all top ≡ []) × AreOrdered all order × (is_in order top ≡ true)
-ended all top marks order w = (sym w.faults, w.ordered, sym (or_false (is_in order top)) ∙ w.reached)
+ended all top marks order w = (sym w.faults, w.ordered, sym (or-false (is_in order top)) ∙ w.reached)

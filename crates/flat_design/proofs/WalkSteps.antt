@@ -3,6 +3,8 @@ use Rattle.std.proofs.Common.{◌≡◌, ◌+◌, ◌-◌, ◌<◌, ◌≤◌, �
 use Rattle.std.specs.Prelude.{⊤}
 use Rattle.std.proofs.lemmas.Bool.{false≢true, or_cases, or_left, or_right, eqb-true}
 use Rattle.std.proofs.lemmas.List.{get_or-set_same, get_or-set_other}
+use Rattle.std.proofs.lemmas.List.Folds.{list_any-append}
+use Rattle.std.proofs.Math.Bool.{or-false}
 use Rattle.std.specs.List.{AllByRecursion}
 use Rattle.source_types.specs.declared.fault_kinds.DesignKind.{DesignKind}
 use Rattle.flat_design.specs.declared.walk.FaultAt.{FaultAt}
@@ -36,17 +38,8 @@ in_take_in (x ∷ xs) (suc q) e h =
       | inr later ↦ or_right (x == e) (is_in xs e) (in_take_in xs q e later)
     ]
 
-or_false : (b : Bool) → (b || false) ≡ b
-or_false true = refl
-or_false false = refl
-
-or_assoc : (a b c : Bool) → (a || (b || c)) ≡ ((a || b) || c)
-or_assoc true b c = refl
-or_assoc false b c = refl
-
 pub in_push : (xs : List ℕ) (x e : ℕ) → is_in (xs ++ x ∷ []) e ≡ (is_in xs e || (x == e))
-in_push [] x e = or_false (x == e)
-in_push (y ∷ ys) x e = ap (λ (t : Bool). (y == e) || t) (in_push ys x e) ∙ or_assoc (y == e) (is_in ys e) (x == e)
+in_push xs x e = list_any-append (λ (other : ℕ). other == e) xs (x ∷ []) ∙ ap (λ (t : Bool). is_in xs e || t) (or-false (x == e))
 
 pub in_push_left : (xs : List ℕ) (x e : ℕ) → is_in xs e ≡ true → is_in (xs ++ x ∷ []) e ≡ true
 in_push_left xs x e h = in_push xs x e ∙ or_left (is_in xs e) (x == e) h

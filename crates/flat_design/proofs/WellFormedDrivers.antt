@@ -17,8 +17,9 @@ use Rattle.sdc_model.specs.FlatNets.{Feed, NetBit, Origin, PinPlace, across, ass
 use Rattle.sdc_model.specs.Instances.{Placed, PlacedCell, Spot, cells_of, entered, instances_of, module_named, path_of, spot_for, spots_of, stands_in, top_spot}
 use Rattle.sdc_model.specs.Ranges.{indices}
 use Rattle.flat_design.proofs.ApartFacts.{get_kept, get_map}
+use Rattle.flat_design.proofs.PlaceFacts.{place_in}
 use Rattle.flat_design.proofs.StepMeanings.{entered_is, entered_none}
-use Rattle.flat_design.proofs.WellFormedLists.{Every, every_append, every_flat, every_kept, every_map, every_none, filter_back, numbered_back, place_in, zip_first}
+use Rattle.flat_design.proofs.WellFormedLists.{Every, every_append, every_flat, every_kept, every_map, every_none, filter_back, numbered_back, zip_first}
 
 -- ---- pins that drive
 

@@ -1,15 +1,14 @@
 -- What holds at each place of a list, and names of which none stands twice.
-use Rattle.std.proofs.Common.{◌≡◌, ◌+◌, ◌<◌, inl, inr, ℕ, zero, suc, Bool, true, false, cond, List, [], ◌∷◌, ◌++◌, length, map, take, slice_get, Option, Some, None, refl, sym, ◌∙◌, ap, subst, arith}
+use Rattle.std.proofs.Common.{◌≡◌, ◌+◌, ◌<◌, inl, inr, ℕ, zero, suc, Bool, true, false, cond, List, [], ◌∷◌, ◌++◌, map, take, slice_get, Option, Some, None, refl, sym, ◌∙◌, ap, subst, arith}
 use Rattle.std.proofs.lemmas.Bool.{cases_lt, or_left, or_right, true_from_ne_false}
-use Rattle.std.proofs.lemmas.List.{length-append, take-map}
-use Rattle.std.proofs.lemmas.Option.{get_or_from_slice_get, slice_get-get_or, slice_get_within}
+use Rattle.std.proofs.lemmas.List.{take-map}
 use Rattle.std.proofs.lemmas.Slice.Eq.{bytes_eq-Decides}
-use Rattle.std.specs.List.{All, AllZip, Contains, enumerate_from, filter, filter_map, flat_map, zip}
+use Rattle.std.specs.List.{AllZip, enumerate_from, filter, filter_map, flat_map, zip}
 use Rattle.sdc_model.specs.FlatFaults.{is_among}
 use Rattle.sdc_model.specs.WellFormedDesign.{AreDistinct, AreGoodNames, is_good_name}
 use Rattle.sdc_model.specs.Words.{same_text}
 use Rattle.flat_design.proofs.ApartFacts.{get_append, get_flat, get_kept, get_map}
-use Rattle.flat_design.proofs.PlaceFacts.{get_within}
+use Rattle.flat_design.proofs.PlaceFacts.{all_from}
 
 -- ---- places
 
@@ -24,18 +23,6 @@ zip_back R (w ∷ xs) (z ∷ ys) all zero y at =
     let one : z ≡ y = cc in
     (w, refl, subst (λ v. R w v) one all.0)
 zip_back R (w ∷ xs) (z ∷ ys) all (suc i) y at = zip_back R xs ys all.1 i y at
-
-pub all_from : {X : Type 0} (P : X → Type 0) (xs : List X) → ((i : ℕ) (x : X) → slice_get xs i ≡ Some x → P x) → All P xs
-all_from P xs each k d within =
-    let r = get_within xs k within in
-    subst P (sym (get_or_from_slice_get xs k r.0 d r.1)) (each k r.0 r.1)
-
-pub all_at : {X : Type 0} (P : X → Type 0) (xs : List X) (i : ℕ) (x : X) → All P xs → slice_get xs i ≡ Some x → P x
-all_at P xs i x all at = subst P (get_or_from_slice_get xs i x x at) (all i x (slice_get_within xs i x at))
-
--- what is contained stands at a place
-pub place_in : {X : Type 0} (xs : List X) (x : X) → Contains xs x → (i : ℕ) × (slice_get xs i ≡ Some x)
-place_in xs x has = (has.0, slice_get-get_or xs has.0 x has.1 ∙ ap (λ z. Some z) has.2)
 
 -- images that are the same place by place
 pub zip_map : {A B C : Type 0} (R : A → B → Type 0) (f : A → C) (g : B → C) → ((a : A) (b : B) → R a b → g b ≡ f a)
@@ -67,19 +54,6 @@ zip_first (x ∷ xs) (y ∷ ys) zero z at =
     let same : (x, y) ≡ z = cc in
     ap (λ (w : _ × _). Some w.0) same
 zip_first (x ∷ xs) (y ∷ ys) (suc n) z at = zip_first xs ys n z at
-
--- where a thing of joined parts stands, with how much stands before its part
-pub flat_back : {X Y : Type 0} (f : X → List Y) (xs : List X) (n : ℕ) (y : Y) → slice_get (flat_map f xs) n ≡ Some y
-    → (k : ℕ) × (x : X) × (m : ℕ) × (slice_get xs k ≡ Some x) × (slice_get (f x) m ≡ Some y) × (n ≡ length (flat_map f (take k xs)) + m)
-flat_back f [] n y at = let bad : None ≡ Some y = at in cc
-flat_back f (x ∷ xs) n y at =
-    elim (get_append (f x) (flat_map f xs) n y at) [
-      | inl front ↦ let e : n ≡ 0 + n = omega arith in (0, x, n, refl, front, e)
-      | inr back ↦
-          let r = flat_back f xs back.0 y back.2 in
-          let long = length-append (f x) (flat_map f (take r.0 xs)) in
-          (suc r.0, r.1, r.2, r.3, r.4, omega (arith, long, back.1, r.5))
-    ]
 
 filter_step : {X : Type 0} (test : X → Bool) (x : X) (xs : List X) (n : ℕ) (y : X) (b : Bool)
     → ((m : ℕ) → slice_get (filter test xs) m ≡ Some y → (k : ℕ) × (slice_get xs k ≡ Some y))

@@ -1,6 +1,6 @@
 -- Names of nets, cells and ports in a design without a fault.
-use Rattle.std.proofs.Common.{◌≡◌, ◌≤◌, inl, ℕ, zero, suc, List, [], ◌∷◌, ◌++◌, length, map, take, slice_get, Some, refl, sym, ◌∙◌, ap, subst, arith}
-use Rattle.std.proofs.lemmas.List.{append_assoc, length-map, map-append, take-map}
+use Rattle.std.proofs.Common.{◌≡◌, inl, ℕ, List, [], ◌∷◌, ◌++◌, length, map, take, slice_get, Some, refl, sym, ◌∙◌, ap, subst, arith}
+use Rattle.std.proofs.lemmas.List.{append_assoc, length-map, map-append, take-append-le, take-map}
 use Rattle.std.proofs.lemmas.List.Concat.{flat_map-append}
 use Rattle.std.proofs.lemmas.Option.{slice_get_within}
 use Rattle.std.specs.List.{AllZip, filter_map, flat_map}
@@ -78,13 +78,6 @@ ports_first modules library top formed =
           ∙ append_assoc (map flat_pin_name (port_pins top)) rest (map net_name inner)),
     )
 
-take_front : {X : Type 0} (n : ℕ) (xs ys : List X) → n ≤ length xs → take n (xs ++ ys) ≡ take n xs
-take_front zero [] [] low = refl
-take_front zero [] (y ∷ ys) low = refl
-take_front zero (x ∷ xs) ys low = refl
-take_front (suc n) [] ys low = absurd (omega (arith, low))
-take_front (suc n) (x ∷ xs) ys low = ap (λ zs. x ∷ zs) (take_front n xs ys (omega (arith, low)))
-
 -- the pin of a port has the name of a net at its place, and those before it too
 pub port_as_net : (modules : List Module) (library : Library) (top : Module) → IsWellFormedModule top → (i : ℕ) (pin : FlatPin)
     → slice_get (port_pins top) i ≡ Some pin → (rest : List FlatPin)
@@ -102,8 +95,8 @@ port_as_net modules library top formed i pin at rest =
       r.0,
       r.1,
       r.2,
-      ap (map flat_pin_name) (take_front i (port_pins top) rest (omega (arith, low)))
+      ap (map flat_pin_name) (take-append-le i (port_pins top) rest (omega (arith, low)))
           ∙ (sym (take-map flat_pin_name i (port_pins top))
-          ∙ (sym (take_front i names first.0 (omega (arith, low, count)))
+          ∙ (sym (take-append-le i names first.0 (omega (arith, low, count)))
           ∙ (ap (take i) (sym first.1) ∙ take-map net_name i f.nets))),
     )

@@ -1,55 +1,22 @@
 -- Where the pins of cells stand in a flat design, and of which cell a pin is.
-use Rattle.std.proofs.Common.{◌≡◌, ◌+◌, ◌⊎◌, inl, inr, ℕ, zero, suc, List, [], ◌∷◌, length, take, slice_get, Some, None, refl, ◌∙◌, ap, arith}
-use Rattle.std.proofs.lemmas.List.{length-append}
+use Rattle.std.proofs.Common.{◌≡◌, ◌+◌, ◌⊎◌, inl, inr, ℕ, List, length, take, slice_get, Some, ◌∙◌, ap, arith}
 use Rattle.std.specs.List.{enumerate_from, flat_map}
 use Rattle.source_types.specs.declared.libraries.Library.{Library}
 use Rattle.source_types.specs.declared.library_cells.LibPin.{LibPin}
 use Rattle.source_types.specs.declared.netlists.Bit.{Bit}
 use Rattle.source_types.specs.declared.netlists.Module.{Module}
 use Rattle.sdc_model.specs.Connections.{connected, names_of, pins_of}
-use Rattle.sdc_model.specs.FlatDesign.{FlatCell, FlatPin, cell_pin, cell_pins, cells_from, flat, port_pins}
+use Rattle.sdc_model.specs.FlatDesign.{FlatCell, FlatPin, cell_pin, cell_pins, flat, port_pins}
 use Rattle.sdc_model.specs.FlatNets.{connected_pins}
 use Rattle.sdc_model.specs.Instances.{PlacedCell, cells_of}
-use Rattle.flat_design.specs.Layout.{kind_pins, pins_in}
-use Rattle.flat_design.proofs.ApartFacts.{get_append, get_map}
+use Rattle.flat_design.specs.Layout.{pins_in}
+use Rattle.flat_design.proofs.ApartFacts.{get_append, get_flat, get_map}
+use Rattle.flat_design.proofs.CellPlaces.{cell_back, cell_there, flat_cell}
 use Rattle.flat_design.proofs.NumberFacts.{behind_at, flat_at}
 use Rattle.flat_design.proofs.PinCounts.{cells_length}
 use Rattle.flat_design.proofs.PinNumbers.{connection_at, numbered_at, numbered_take}
 use Rattle.flat_design.proofs.RangeFacts.{map_at}
-use Rattle.flat_design.proofs.WellFormedLists.{flat_back, numbered_back, zip_first}
-
--- ---- cells with the places of their first pins
-
-abbrev pub flat_cell : PlacedCell → ℕ → FlatCell
-flat_cell cell first = record { is = cell; first = first }
-
-pub cell_there : (first : ℕ) (cells : List PlacedCell) (n : ℕ) (cell : PlacedCell) → slice_get cells n ≡ Some cell
-    → slice_get (cells_from first cells) n ≡ Some (flat_cell cell (first + pins_in (take n cells)))
-cell_there first [] n cell at = let bad : None ≡ Some cell = at in cc
-cell_there first (c ∷ cells) zero cell at =
-    let e : Some c ≡ Some cell = at in
-    let same : c ≡ cell = cc in
-    let none : pins_in [] ≡ 0 = refl in
-    let plus : first ≡ first + pins_in [] = omega (arith, none) in
-    ap (λ (x : PlacedCell). Some (flat_cell x first)) same ∙ ap (λ (k : ℕ). Some (flat_cell cell k)) plus
-cell_there first (c ∷ cells) (suc n) cell at =
-    let long = length-append (kind_pins c) (flat_map kind_pins (take n cells)) in
-    let plus : first + length c.kind.pins + pins_in (take n cells) ≡ first + pins_in (c ∷ take n cells) = omega (arith, long) in
-    cell_there (first + length c.kind.pins) cells n cell at ∙ ap (λ (k : ℕ). Some (flat_cell cell k)) plus
-
-pub cell_back : (first : ℕ) (cells : List PlacedCell) (n : ℕ) (cell : FlatCell) → slice_get (cells_from first cells) n ≡ Some cell
-    → (slice_get cells n ≡ Some cell.is) × (cell.first ≡ first + pins_in (take n cells))
-cell_back first [] n cell at = let bad : None ≡ Some cell = at in cc
-cell_back first (c ∷ cells) zero cell at =
-    let e : Some (flat_cell c first) ≡ Some cell = at in
-    let same : flat_cell c first ≡ cell = cc in
-    let none : pins_in [] ≡ 0 = refl in
-    let own : first ≡ cell.first = ap (λ (x : FlatCell). x.first) same in
-    (ap (λ (x : FlatCell). Some x.is) same, omega (arith, none, own))
-cell_back first (c ∷ cells) (suc n) cell at =
-    let r = cell_back (first + length c.kind.pins) cells n cell at in
-    let long = length-append (kind_pins c) (flat_map kind_pins (take n cells)) in
-    (r.0, omega (arith, long, r.1))
+use Rattle.flat_design.proofs.WellFormedLists.{numbered_back, zip_first}
 
 -- ---- pins of cells
 
@@ -100,7 +67,7 @@ pub of_cell : (modules : List Module) (library : Library) (top : Module) (number
     → slice_get (flat_map cell_pins (enumerate_from 0 (cells_of modules library top))) m ≡ Some pin → IsOfCell modules library top number pin
 of_cell modules library top number m pin number_is found =
     let cells : List PlacedCell = cells_of modules library top in
-    let joined = flat_back cell_pins (enumerate_from 0 cells) m pin found in
+    let joined = get_flat cell_pins (enumerate_from 0 cells) m pin found in
     let numbered : ℕ × PlacedCell = joined.1 in
     let own = numbered_back 0 cells joined.0 numbered joined.3 in
     let connection = get_map (cell_pin numbered.0 numbered.1) (connected_pins numbered.1) joined.2 pin joined.4 in

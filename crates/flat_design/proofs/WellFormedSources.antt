@@ -20,15 +20,17 @@ use Rattle.sdc_model.specs.Instances.{PlacedCell, cell_at, cells_of, instances_o
 use Rattle.sdc_model.specs.WellFormedDesign.{IsDriver, role_in_cell}
 use Rattle.sdc_model.specs.WellFormedNetlist.{IsNetOfPort, IsWellFormedModule}
 use Rattle.flat_design.proofs.ApartFacts.{Apart, apart_kept, get_map}
+use Rattle.flat_design.proofs.CellPlaces.{cell_back}
 use Rattle.flat_design.proofs.HierarchyFacts.{one_at}
 use Rattle.flat_design.proofs.NumberFacts.{front_at}
 use Rattle.flat_design.proofs.PathsApart.{below_apart}
+use Rattle.flat_design.proofs.PlaceFacts.{all_from}
 use Rattle.flat_design.proofs.RangeFacts.{map_at}
 use Rattle.flat_design.proofs.TerminalFacts.{zip_at}
 use Rattle.flat_design.proofs.WellFormedCells.{cell_parts, port_back}
 use Rattle.flat_design.proofs.WellFormedDrivers.{IsDriving, source_in}
-use Rattle.flat_design.proofs.WellFormedLists.{all_from, zip_back}
-use Rattle.flat_design.proofs.WellFormedPins.{cell_back, pin_back}
+use Rattle.flat_design.proofs.WellFormedLists.{zip_back}
+use Rattle.flat_design.proofs.WellFormedPins.{pin_back}
 
 -- ---- which pin stands at a place
 

@@ -1,7 +1,7 @@
 -- What feeds the nets of a design, by the numbers of nets and pins. This project's own words.
 -- It reads: the number of a net or a pin is its place among all of the design.
-use Rattle.std.specs.Prelude.{◌≡◌, ◌++◌, ℕ, Bool, List, [], map, slice_get, Option, Some, None}
-use Rattle.std.specs.List.{AllZip, Contains}
+use Rattle.std.specs.Prelude.{◌≡◌, ℕ, Bool, List, [], map, slice_get, Option, Some, None}
+use Rattle.std.specs.List.{Contains}
 use Rattle.source_types.specs.declared.netlists.Bit.{Bit}
 use Rattle.source_types.specs.declared.netlists.Port.{Port}
 use Rattle.source_types.specs.declared.netlists.Wire.{Wire}
@@ -13,6 +13,7 @@ use Rattle.flat_design.specs.declared.feeds.FeedRow.{FeedRow}
 use Rattle.flat_design.specs.declared.feeds.Feeder.{Feeder}
 use Rattle.flat_design.specs.declared.feeds.Feeder.TheVariants as feeder
 use Rattle.flat_design.specs.declared.hierarchy.Hierarchy.{Hierarchy}
+use Rattle.flat_design.specs.AddedRows.{AddsRows}
 use Rattle.flat_design.specs.Hierarchy.{pins_of_design, spots_in}
 use Rattle.flat_design.specs.NetNumbers.{IsNumber}
 
@@ -68,7 +69,7 @@ row_of None from = None
 
 -- rows of these feeds are added
 abbrev pub Adds : Hierarchy → List Feed → List FeedRow → List FeedRow → Type 0
-Adds design feeds old new = (more : List FeedRow) × (new ≡ old ++ more) × AllZip (IsFeed design) feeds more
+Adds design feeds old new = AddsRows (IsFeed design) feeds old new
 
 -- a bit of a net is fed by the value that the net is tied to
 abbrev pub tied_bit : List ℕ → Wire → Bool → Option ℕ → Feed

@@ -1,3 +1,4 @@
+pub mod AddedRows
 pub mod Building
 pub mod Connected
 pub mod DesignParts

@@ -1,19 +1,17 @@
 -- The pins of a design without their names, and what drives them. This project's own words.
 -- It reads: a list has, for each net by its number, what is found by following its sources; a row of a pin has all that
 -- a design says of the pin but its name.
-use Rattle.std.specs.Prelude.{◌≡◌, ◌++◌, ℕ, Bool, true, false, List, length, slice_get, Option, Some, None}
-use Rattle.std.specs.List.{AllZip}
+use Rattle.std.specs.Prelude.{◌≡◌, ℕ, Bool, true, false, List, length, slice_get, Option, Some, None}
 use Rattle.timing_types.specs.declared.designs.Source.{Source}
 use Rattle.timing_types.specs.declared.designs.Source.TheVariants as source
-use Rattle.sdc_model.specs.FlatDesign.{Flat, FlatPin, IsDriverOf, IsSourceOf, flat, pin_places}
+use Rattle.sdc_model.specs.FlatDesign.{FlatPin, IsDriverOf, IsSourceOf, pin_places}
 use Rattle.sdc_model.specs.FlatNets.{NetBit, Origin}
 use Rattle.flat_design.specs.declared.hierarchy.Hierarchy.{Hierarchy}
 use Rattle.flat_design.specs.declared.pin_rows.PinRow.{PinRow}
+use Rattle.flat_design.specs.AddedRows.{AddsRows}
 use Rattle.flat_design.specs.Hierarchy.{spots_in}
+use Rattle.flat_design.specs.NamedFaults.{flat_of}
 use Rattle.flat_design.specs.NetNumbers.{IsNumber}
-
-abbrev pub flat_of : Hierarchy → Flat
-flat_of design = flat design.modules.now design.library.now design.top.now
 
 -- ---- drivers
 
@@ -41,9 +39,6 @@ pub record IsPinRow (design : Hierarchy) (pin : FlatPin) (row : PinRow) : Type 0
   pub lib_pin : row.lib_pin ≡ pin.lib_pin
   pub driver : IsDriven design pin.load row.driver
 
--- rows of these things are added
-abbrev pub AddsRows : {A B : Type 0} → (A → B → Type 0) → List A → List B → List B → Type 0
-AddsRows {B} R things old new = (more : List B) × (new ≡ old ++ more) × AllZip R things more
-
+-- rows of these pins are added
 abbrev pub AddsPins : Hierarchy → List FlatPin → List PinRow → List PinRow → Type 0
 AddsPins design pins old new = AddsRows (IsPinRow design) pins old new

@@ -6,7 +6,8 @@ ghost use Rattle.sdc_model.specs.FlatDesign.{IsFlatDesign};
 ghost use Rattle.sdc_model.specs.FlatFaults.{flat_pin_name};
 ghost use Rattle.sdc_model.specs.FlatNets.{net_name, nets_in};
 ghost use Rattle.flat_design.specs.Hierarchy.{IsHierarchy, cell_name, cells_in, pins_of_design, spots_in};
-ghost use Rattle.flat_design.specs.PinRows.{AreEnds, flat_of};
+ghost use Rattle.flat_design.specs.NamedFaults.{flat_of};
+ghost use Rattle.flat_design.specs.PinRows.{AreEnds};
 
 use crate::design_cells::cells_of;
 use crate::design_nets::nets_of;

@@ -4,7 +4,7 @@ ghost use Rattle.std.specs.Prelude.{◌≡◌, ◌<◌, IfOk, Some, length, map,
 ghost use Rattle.std.specs.List.{AllZip};
 ghost use Rattle.sdc_model.specs.FlatDesign.{FlatCell, IsCell};
 ghost use Rattle.flat_design.specs.Hierarchy.{IsHierarchy, cell_name, cells_in};
-ghost use Rattle.flat_design.specs.PinRows.{flat_of};
+ghost use Rattle.flat_design.specs.NamedFaults.{flat_of};
 
 use crate::hierarchy::Hierarchy;
 use crate::items::item_at;

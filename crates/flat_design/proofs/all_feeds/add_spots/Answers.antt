@@ -3,10 +3,10 @@ use Rattle.std.proofs.lemmas.List.{take_all}
 use Rattle.std.specs.List.{flat_map}
 use Rattle.sdc_model.specs.FlatNets.{spot_feeds}
 use Rattle.sdc_model.specs.Instances.{Spot}
-use Rattle.flat_design.specs.Feeds.{Adds}
+use Rattle.flat_design.specs.Feeds.{Adds, IsFeed}
 use Rattle.flat_design.specs.Hierarchy.{spots_in}
-use Rattle.flat_design.proofs.AddedFeeds.{adds_flat}
 use Rattle.flat_design.proofs.PlaceFacts.{get_within}
+use Rattle.flat_design.proofs.RowFacts.{rows_flat}
 use Rattle.flat_design.proofs.all_feeds.add_spots.Goals as goal
 
 pub loop-place-preserved : goal.loop-place-preserved
@@ -14,7 +14,7 @@ loop-place-preserved c =
     let spots = spots_in c.args.design.now in
     let low : c.loop-place.place < length spots = omega (arith, c.loop-place-test.true, c.len-place-end.ensures, c.requires.is.layout.spot_count) in
     let here = get_within spots c.loop-place.place low in
-    adds_flat c.args.design.now spot_feeds spots c.loop-place.place here.0 c.args.rows.now c.loop-place.rows c.add_spot.new.rows here.1
+    rows_flat (IsFeed c.args.design.now) spot_feeds spots c.loop-place.place here.0 c.args.rows.now c.loop-place.rows c.add_spot.new.rows here.1
     (c.in_ok-add_spot.ensures here.0 here.1) c.loop-place.invariant
 
 pub returns : goal.returns

@@ -1,5 +1,6 @@
 use Rattle.std.proofs.Common.{◌≡◌, ◌≤◌, List, ℕ, length, slice_get, Some, sym, ◌∙◌, ap, subst, arith}
 use Rattle.std.proofs.lemmas.List.{take_all}
+use Rattle.std.proofs.lemmas.Slice.Zip.{AllZip-long}
 use Rattle.std.specs.List.{flat_map, zip}
 use Rattle.source_types.specs.declared.netlists.Bit.{Bit}
 use Rattle.source_types.specs.declared.netlists.Instance.{Instance}
@@ -11,14 +12,14 @@ use Rattle.sdc_model.specs.FlatNets.{port_feeds}
 use Rattle.sdc_model.specs.Instances.{Spot}
 use Rattle.flat_design.specs.declared.layout.SpotRow.{SpotRow}
 use Rattle.flat_design.specs.Connected.{shown}
-use Rattle.flat_design.specs.Feeds.{Adds}
+use Rattle.flat_design.specs.Feeds.{Adds, IsFeed}
 use Rattle.flat_design.specs.Hierarchy.{spots_in}
 use Rattle.flat_design.specs.Layout.{IsSpot}
 use Rattle.flat_design.specs.Tables.{IsTerminals}
-use Rattle.flat_design.proofs.AddedFeeds.{adds_flat, zip_get}
+use Rattle.flat_design.proofs.AddedFeeds.{zip_get}
 use Rattle.flat_design.proofs.BoundaryFacts.{bits_there, pairs_few, port_named, port_there, terminals_known}
 use Rattle.flat_design.proofs.HierarchyFacts.{body_within, one_at, spot_within}
-use Rattle.flat_design.proofs.TerminalFacts.{zip_length}
+use Rattle.flat_design.proofs.RowFacts.{rows_flat}
 use Rattle.flat_design.proofs.boundary_feeds.add_boundary.Goals as goal
 
 pub item_at-row-requires : goal.item_at-row-requires
@@ -46,7 +47,7 @@ item_at-known-requires c =
     let is : IsSpot design.modules.now spots c.args.inside row =
     c.requires.is.layout.spots c.args.inside row (ap (λ (xs : List SpotRow). slice_get xs c.args.inside) (sym c.as_slice.ensures) ∙ c.item_at-row.ensures) in
     let low = body_within design.modules.now spots c.args.inside row is in
-    let count = zip_length (λ (m : Module) found. IsTerminals (ports_of m) found) design.modules.now c.args.ports.now c.requires.ports in
+    let count = AllZip-long (λ (m : Module) found. IsTerminals (ports_of m) found) design.modules.now c.args.ports.now c.requires.ports in
     omega (arith, low, count)
 
 pub add_connection-requires-clause-port : goal.add_connection-requires-clause-port
@@ -121,7 +122,7 @@ loop-place-preserved c = λ found placed at there.
     let bits_at : slice_get (connected names placed.instance.links) c.loop-place.place ≡ Some (shown c.connected_at-bits.result) =
     ap (λ (all : Links). slice_get (connected names all) c.loop-place.place) (sym links)
     ∙ c.connected_at-bits.ensures names known.places c.in_ok-places.ensures named in
-    adds_flat design (port_feeds found.path placed.spot.path) pairs c.loop-place.place (port, shown c.connected_at-bits.result) c.args.rows.now c.loop-place.rows
+    rows_flat (IsFeed design) (port_feeds found.path placed.spot.path) pairs c.loop-place.place (port, shown c.connected_at-bits.result) c.args.rows.now c.loop-place.rows
     c.add_connection.new.rows
     (zip_get found.body.ports (connected names placed.instance.links) c.loop-place.place port (shown c.connected_at-bits.result) port_at bits_at)
     (c.in_ok-add_connection.ensures found placed.spot at there.spot) (c.loop-place.invariant found placed at there)

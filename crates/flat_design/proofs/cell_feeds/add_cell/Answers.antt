@@ -1,6 +1,7 @@
 use Rattle.std.proofs.Common.{◌≡◌, ◌+◌, ◌≤◌, List, ℕ, length, slice_get, Some, sym, ◌∙◌, ap, subst, arith}
 use Rattle.std.proofs.lemmas.List.{take_all}
 use Rattle.std.proofs.lemmas.Option.{slice_get_within}
+use Rattle.std.proofs.lemmas.Slice.Zip.{AllZip-long}
 use Rattle.std.specs.List.{All, enumerate_from, flat_map}
 use Rattle.source_types.specs.declared.library_cells.LibCell.{LibCell}
 use Rattle.source_types.specs.declared.library_cells.LibPin.{LibPin}
@@ -13,17 +14,17 @@ use Rattle.sdc_model.specs.FlatNets.{connected_pins, output_feeds}
 use Rattle.sdc_model.specs.Instances.{PlacedCell}
 use Rattle.flat_design.specs.declared.layout.CellRow.{CellRow}
 use Rattle.flat_design.specs.Connected.{shown}
-use Rattle.flat_design.specs.Feeds.{Adds, HasBit}
+use Rattle.flat_design.specs.Feeds.{Adds, HasBit, IsFeed}
 use Rattle.flat_design.specs.Hierarchy.{cells_in, spots_in}
 use Rattle.flat_design.specs.Layout.{IsCell, IsPlaced}
 use Rattle.flat_design.specs.Tables.{IsTerminals}
-use Rattle.flat_design.proofs.AddedFeeds.{adds_flat, zip_get}
+use Rattle.flat_design.proofs.AddedFeeds.{zip_get}
 use Rattle.flat_design.proofs.BoundaryFacts.{bits_there}
 use Rattle.flat_design.proofs.CellFacts.{cell_terminals, pin_named}
 use Rattle.flat_design.proofs.HierarchyFacts.{one_at}
 use Rattle.flat_design.proofs.PinCounts.{pins_connected}
 use Rattle.flat_design.proofs.PinNumbers.{numbered_at}
-use Rattle.flat_design.proofs.TerminalFacts.{zip_length}
+use Rattle.flat_design.proofs.RowFacts.{rows_flat}
 use Rattle.flat_design.proofs.cell_feeds.add_cell.Goals as goal
 
 pub item_at-known-requires : goal.item_at-known-requires
@@ -35,7 +36,7 @@ item_at-known-requires c =
     let is : IsCell design.library.now (spots_in design) (cells_in design) (length (port_pins design.top.now)) c.args.cell row =
     c.requires.is.layout.cells c.args.cell row row_at in
     let low = slice_get_within design.library.now.cells row.kind is.cell.kind is.kind in
-    let count = zip_length (λ (kind : LibCell) found. IsTerminals (pins_of kind) found) design.library.now.cells c.args.pins.now c.requires.pins in
+    let count = AllZip-long (λ (kind : LibCell) found. IsTerminals (pins_of kind) found) design.library.now.cells c.args.pins.now c.requires.pins in
     omega (arith, low, count)
 
 pub instance_at-instance-requires-clause-there : goal.instance_at-instance-requires-clause-there
@@ -116,7 +117,7 @@ loop-place-preserved c = λ found at.
     zip_get (enumerate_from 0 found.kind.pins) (connected names found.placed.instance.links) c.loop-place.place (0 + c.loop-place.place, pin) (shown c.connected_at-bits.result)
     (numbered_at 0 found.kind.pins c.loop-place.place pin pin_at) bits_at
     ∙ ap (λ (n : ℕ). Some ((n, pin), shown c.connected_at-bits.result)) plus in
-    adds_flat design (output_feeds found) (connected_pins found) c.loop-place.place ((c.loop-place.place, pin), shown c.connected_at-bits.result) c.args.rows.now
+    rows_flat (IsFeed design) (output_feeds found) (connected_pins found) c.loop-place.place ((c.loop-place.place, pin), shown c.connected_at-bits.result) c.args.rows.now
     c.loop-place.rows c.add_pin.new.rows pair (c.in_ok-add_pin.ensures found at) (c.loop-place.invariant found at)
 
 pub returns : goal.returns

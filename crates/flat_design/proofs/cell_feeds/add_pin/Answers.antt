@@ -3,27 +3,27 @@ use Rattle.std.specs.List.{All}
 use Rattle.source_types.specs.declared.netlists.Bit.{Bit}
 use Rattle.sdc_model.specs.FlatNets.{Feed, output_feeds}
 use Rattle.flat_design.specs.Connected.{shown}
-use Rattle.flat_design.specs.Feeds.{Adds, HasBit}
-use Rattle.flat_design.proofs.AddedFeeds.{adds_none}
+use Rattle.flat_design.specs.Feeds.{Adds, HasBit, IsFeed}
 use Rattle.flat_design.proofs.CellFacts.{fed_by_input, fed_by_other, fed_by_output}
+use Rattle.flat_design.proofs.RowFacts.{rows_none}
 use Rattle.flat_design.proofs.cell_feeds.add_pin.Goals as goal
 use denote.Ref.{Bor}
 
 pub returns-in-Input : goal.returns-in-Input
 returns-in-Input c = λ found at.
     subst (λ (feeds : List Feed). Adds c.args.design.now feeds c.args.rows.now c.args.rows.now)
-    (sym (fed_by_input found c.args.at c.args.pin.now (shown c.args.connection) c.in-Input.is)) (adds_none c.args.design.now c.args.rows.now)
+    (sym (fed_by_input found c.args.at c.args.pin.now (shown c.args.connection) c.in-Input.is)) (rows_none (IsFeed c.args.design.now) c.args.rows.now)
 
 pub returns-in-Other : goal.returns-in-Other
 returns-in-Other c = λ found at.
     subst (λ (feeds : List Feed). Adds c.args.design.now feeds c.args.rows.now c.args.rows.now)
-    (sym (fed_by_other found c.args.at c.args.pin.now (shown c.args.connection) c.in-Other.is)) (adds_none c.args.design.now c.args.rows.now)
+    (sym (fed_by_other found c.args.at c.args.pin.now (shown c.args.connection) c.in-Other.is)) (rows_none (IsFeed c.args.design.now) c.args.rows.now)
 
 pub returns-in-None : goal.returns-in-None
 returns-in-None c = λ found at.
     subst (λ (o : Option (Bor (List Bit))). Adds c.args.design.now (output_feeds found ((c.args.at, c.args.pin.now), shown o)) c.args.rows.now c.args.rows.now) (sym c.in-None.is)
     (subst (λ (feeds : List Feed). Adds c.args.design.now feeds c.args.rows.now c.args.rows.now)
-    (sym (fed_by_output found c.args.at c.args.pin.now (shown None) c.in-Output.is)) (adds_none c.args.design.now c.args.rows.now))
+    (sym (fed_by_output found c.args.at c.args.pin.now (shown None) c.in-Output.is)) (rows_none (IsFeed c.args.design.now) c.args.rows.now))
 
 pub add_output-requires-clause-bits : goal.add_output-requires-clause-bits
 add_output-requires-clause-bits c = λ row at.

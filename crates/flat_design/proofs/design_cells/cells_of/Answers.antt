@@ -1,6 +1,6 @@
 use Rattle.std.proofs.Common.{◌≡◌, ℕ, length, slice_get, Some, sym, ◌∙◌, ap, arith}
 use Rattle.std.specs.Vec.Iter.{into_iter_items}
-use Rattle.flat_design.specs.PinRows.{flat_of}
+use Rattle.flat_design.specs.NamedFaults.{flat_of}
 use Rattle.flat_design.proofs.FlatCellFacts.{all_made, made_count, next_cell, one_made}
 use Rattle.flat_design.proofs.TakenFacts.{taken_all, taken_at}
 use Rattle.flat_design.proofs.design_cells.cells_of.Goals as goal

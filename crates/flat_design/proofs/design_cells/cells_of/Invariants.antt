@@ -2,7 +2,7 @@
 use Rattle.std.proofs.Common.{length, take}
 use Rattle.std.specs.List.{AllZip}
 use Rattle.sdc_model.specs.FlatDesign.{IsCell}
-use Rattle.flat_design.specs.PinRows.{flat_of}
+use Rattle.flat_design.specs.NamedFaults.{flat_of}
 use Rattle.flat_design.proofs.design_cells.cells_of.Given as goal
 
 abbrev pub invariant-loop-name : goal.invariant-loop-name

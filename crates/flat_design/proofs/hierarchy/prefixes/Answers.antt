@@ -1,8 +1,7 @@
 use Rattle.std.proofs.Common.{◌<◌, ◌≤◌, ℕ, length, map, take, slice_get, sym, ◌∙◌, ap, arith}
 use Rattle.std.proofs.lemmas.List.{length_push, take_all}
 use Rattle.flat_design.specs.Hierarchy.{prefix_in, spots_in}
-use Rattle.flat_design.proofs.HierarchyFacts.{prefixes_more}
-use Rattle.flat_design.proofs.PlaceFacts.{get_within}
+use Rattle.flat_design.proofs.PlaceFacts.{get_within, mapped_more}
 use Rattle.flat_design.proofs.hierarchy.prefixes.Goals as goal
 
 pub next_prefix-requires-clause-within : goal.next_prefix-requires-clause-within
@@ -22,7 +21,7 @@ loop-place-preserved c =
     let low : n < length spots = omega (arith, c.loop-place-test.true, c.len-place-end.ensures, c.requires.layout.spot_count) in
     let here = get_within spots n low in
     let more = length_push c.loop-place.all c.in_ok-prefix.prefix in (
-      c.in_ok-push.ensures.ok ∙ prefixes_more spots c.loop-place.all n here.0 c.in_ok-prefix.prefix here.1
+      c.in_ok-push.ensures.ok ∙ mapped_more prefix_in spots n here.0 c.in_ok-prefix.prefix c.loop-place.all here.1
           (c.in_ok-prefix.ensures here.0 (ap (slice_get spots) c.loop-place.invariant.1 ∙ here.1)) c.loop-place.invariant.0,
       ap length c.in_ok-push.ensures.ok ∙ omega (arith, more, c.loop-place.invariant.1),
     )

@@ -1,4 +1,5 @@
 use Rattle.std.proofs.Common.{◌≡◌, ◌+◌, List, ℕ, length, slice_get, Some, sym, ◌∙◌, ap, subst, arith}
+use Rattle.std.proofs.lemmas.Slice.Zip.{AllZip-long}
 use Rattle.source_types.specs.declared.netlists.Module.{Module}
 use Rattle.source_types.specs.declared.netlists.Wire.{Wire}
 use Rattle.sdc_model.specs.FlatNets.{net_bit}
@@ -12,7 +13,6 @@ use Rattle.flat_design.proofs.HierarchyFacts.{body_within, one_at, spot_within}
 use Rattle.flat_design.proofs.NetRead.{Known, index_known, known, net_within, no_place, number_of, parts_fit, start_within}
 use Rattle.flat_design.proofs.NumberFacts.{number_small}
 use Rattle.flat_design.proofs.TableFacts.{table_gives}
-use Rattle.flat_design.proofs.TerminalFacts.{zip_length}
 use Rattle.flat_design.proofs.net_numbers.net_number.Goals as goal
 
 pub item_at-row-requires : goal.item_at-row-requires
@@ -37,7 +37,7 @@ item_at-known-requires c =
     let is : IsSpot design.modules.now (spots_in design) c.args.spot row =
     c.requires.is.layout.spots c.args.spot row (ap (λ (xs : List SpotRow). slice_get xs c.args.spot) (sym c.as_slice.ensures) ∙ c.item_at-row.ensures) in
     let low = body_within design.modules.now (spots_in design) c.args.spot row is in
-    let count = zip_length (λ (m : Module) found. IsNetTable m.nets found) design.modules.now c.args.tables.now c.requires.tables in
+    let count = AllZip-long (λ (m : Module) found. IsNetTable m.nets found) design.modules.now c.args.tables.now c.requires.tables in
     omega (arith, low, count)
 
 pub item_at-start-requires : goal.item_at-start-requires

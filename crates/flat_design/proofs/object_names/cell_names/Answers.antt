@@ -2,7 +2,7 @@ use Rattle.std.proofs.Common.{◌≤◌, List, length, map, slice_get, sym, ◌�
 use Rattle.std.proofs.lemmas.List.{take_all}
 use Rattle.flat_design.specs.declared.layout.CellRow.{CellRow}
 use Rattle.flat_design.specs.Hierarchy.{cell_name, cells_in}
-use Rattle.flat_design.proofs.HierarchyFacts.{names_of_more}
+use Rattle.flat_design.proofs.PlaceFacts.{mapped_more}
 use Rattle.flat_design.proofs.object_names.cell_names.Goals as goal
 
 pub name_of-requires-clause-there : goal.name_of-requires-clause-there
@@ -17,7 +17,7 @@ loop-place-preserved c =
     let row = c.item_at-row.result.now in
     let known = c.requires.is.layout.cells c.loop-place.place row
     (ap (λ (xs : List CellRow). slice_get xs c.loop-place.place) (sym c.as_slice.ensures) ∙ c.item_at-row.ensures) in
-    c.in_ok-push.ensures.ok ∙ names_of_more (cells_in c.args.design.now) c.loop-place.names c.loop-place.place known.cell c.in_ok-name.name known.at
+    c.in_ok-push.ensures.ok ∙ mapped_more cell_name (cells_in c.args.design.now) c.loop-place.place known.cell c.in_ok-name.name c.loop-place.names known.at
     (c.in_ok-name.ensures known.cell.placed known.is) c.loop-place.invariant
 
 pub returns : goal.returns

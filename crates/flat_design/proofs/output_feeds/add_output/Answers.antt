@@ -9,7 +9,7 @@ use Rattle.flat_design.specs.Hierarchy.{cells_in, spots_in}
 use Rattle.flat_design.proofs.AddedFeeds.{adds_more}
 use Rattle.flat_design.proofs.FeedFacts.{both_of}
 use Rattle.flat_design.proofs.HierarchyFacts.{one_at}
-use Rattle.flat_design.proofs.LaidOut.{all_at}
+use Rattle.flat_design.proofs.PlaceFacts.{all_at}
 use Rattle.flat_design.proofs.PinNumbers.{pin_number, pin_small}
 use Rattle.flat_design.proofs.output_feeds.add_output.Goals as goal
 

@@ -1,8 +1,8 @@
 use Rattle.std.proofs.Common.{◌≡◌, List, ℕ, Bool, length, slice_get, Some, refl, ◌∙◌, ap, subst, arith}
-use Rattle.std.proofs.lemmas.List.{length_push}
+use Rattle.std.proofs.lemmas.List.{length_push, map-id}
 use Rattle.std.proofs.lemmas.Option.{slice_get_read, slice_get_within}
 use Rattle.flat_design.specs.Names.{IsTable}
-use Rattle.flat_design.proofs.RepeatFacts.{map_same, repeats_more}
+use Rattle.flat_design.proofs.RepeatFacts.{repeats_more}
 use Rattle.flat_design.proofs.repeated.repeated.Goals as goal
 
 pub loop-at-preserved : goal.loop-at-preserved
@@ -11,7 +11,7 @@ loop-at-preserved c =
     let at = c.loop-at.at in
     let name = c.index-names-at.result in
     let here : slice_get names at ≡ Some name = slice_get_read names (length names) at name refl c.loop-at-test.true c.index-names-at.is in
-    let table : IsTable c.in_ok-places.places names = subst (λ (ns : List (List ℕ)). IsTable c.in_ok-places.places ns) (map_same names) c.in_ok-places.ensures in
+    let table : IsTable c.in_ok-places.places names = subst (λ (ns : List (List ℕ)). IsTable c.in_ok-places.places ns) (map-id names) c.in_ok-places.ensures in
     let more = length_push c.loop-at.repeats c.is_repeated.result in
     record {
       count = ap length c.in_ok-push.ensures.ok ∙ omega (arith, more, c.loop-at.invariant.count);

@@ -3,10 +3,10 @@ use Rattle.source_types.specs.declared.netlists.Assign.{Assign}
 use Rattle.source_types.specs.declared.netlists.Module.{Module}
 use Rattle.sdc_model.specs.FlatNets.{assign_feeds}
 use Rattle.sdc_model.specs.WellFormedNetlist.{IsAssignOf}
+use Rattle.flat_design.specs.Feeds.{IsFeed}
 use Rattle.flat_design.specs.Hierarchy.{spots_in}
-use Rattle.flat_design.proofs.AddedFeeds.{adds_flat}
-use Rattle.flat_design.proofs.LaidOut.{all_at}
-use Rattle.flat_design.proofs.PlaceFacts.{get_within}
+use Rattle.flat_design.proofs.PlaceFacts.{all_at, get_within}
+use Rattle.flat_design.proofs.RowFacts.{rows_flat}
 use Rattle.flat_design.proofs.spot_feeds.add_assigns.Goals as goal
 
 pub add_assign-requires-clause-there : goal.add_assign-requires-clause-there
@@ -30,5 +30,5 @@ loop-place-preserved c = λ found at.
     let there : slice_get found.body.assigns c.loop-place.place ≡ Some c.item_at-assign.result.now =
     ap (λ (m : Module). slice_get m.assigns c.loop-place.place) (sym own)
     ∙ (ap (λ (xs : List Assign). slice_get xs c.loop-place.place) (sym c.as_slice.ensures) ∙ c.item_at-assign.ensures) in
-    adds_flat c.args.design.now (assign_feeds found.path) found.body.assigns c.loop-place.place c.item_at-assign.result.now c.args.rows.now c.loop-place.rows
+    rows_flat (IsFeed c.args.design.now) (assign_feeds found.path) found.body.assigns c.loop-place.place c.item_at-assign.result.now c.args.rows.now c.loop-place.rows
     c.add_assign.new.rows there (c.in_ok-add_assign.ensures found at) (c.loop-place.invariant found at)

@@ -1,10 +1,11 @@
 use Rattle.std.proofs.Common.{List, ◌≡◌, length, get_or, subst, ◌∙◌, ap, arith, refl}
 use Rattle.std.proofs.lemmas.Option.{slice_get_read}
+use Rattle.std.proofs.lemmas.Slice.Zip.{AllZip-long}
 use Rattle.source_types.specs.declared.library_cells.LibCell.{LibCell}
 use Rattle.sdc_model.specs.Connections.{pins_of}
 use Rattle.flat_design.specs.Tables.{IsTerminals}
 use Rattle.flat_design.proofs.StepFacts.{step_fitting, step_refused}
-use Rattle.flat_design.proofs.TerminalFacts.{zip_length, zip_read}
+use Rattle.flat_design.proofs.TerminalFacts.{zip_read}
 use Rattle.flat_design.proofs.steps.cell_step.Goals as goal
 
 pub returns-then-as_slice-kind : goal.returns-then-as_slice-kind
@@ -17,7 +18,7 @@ returns-then-as_slice-kind c =
 
 pub index-pins-requires : goal.index-pins-requires
 index-pins-requires c =
-    let count = zip_length (λ cell found. IsTerminals (pins_of cell) found) c.args.tables.now.library.now.cells c.args.tables.now.pins.items c.requires.tables.pins in
+    let count = AllZip-long (λ cell found. IsTerminals (pins_of cell) found) c.args.tables.now.library.now.cells c.args.tables.now.pins.items c.requires.tables.pins in
     omega (arith, count, c.args.tables.now.pins.ok.0, c.requires.within)
 
 pub returns : goal.returns

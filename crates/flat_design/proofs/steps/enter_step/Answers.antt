@@ -1,22 +1,23 @@
 use Rattle.std.proofs.Common.{◌∙◌, ap, Option, sym, arith}
+use Rattle.std.proofs.lemmas.Slice.Zip.{AllZip-long}
 use Rattle.source_types.specs.declared.netlists.Module.{Module}
 use Rattle.flat_design.specs.declared.walk.Step.TheVariants as step
 use Rattle.flat_design.specs.Steps.{fits_module}
-use Rattle.flat_design.proofs.StepFacts.{module_there}
+use Rattle.flat_design.proofs.PlaceFacts.{get_within}
 use Rattle.sdc_model.specs.Connections.{ports_of}
 use Rattle.flat_design.specs.Tables.{IsTerminals}
-use Rattle.flat_design.proofs.TerminalFacts.{zip_length, zip_read}
+use Rattle.flat_design.proofs.TerminalFacts.{zip_read}
 use Rattle.flat_design.proofs.steps.enter_step.Goals as goal
 
 pub index-ports-requires : goal.index-ports-requires
 index-ports-requires c =
-    let count = zip_length (λ m found. IsTerminals (ports_of m) found) c.args.tables.now.modules.now c.args.tables.now.ports.items c.requires.tables.ports in
+    let count = AllZip-long (λ m found. IsTerminals (ports_of m) found) c.args.tables.now.modules.now c.args.tables.now.ports.items c.requires.tables.ports in
     omega (arith, count, c.args.tables.now.ports.ok.0, c.requires.within)
 
 pub returns : goal.returns
 returns c =
     let modules = c.args.tables.now.modules.now in
-    let at = module_there modules c.args.opened c.requires.within in
+    let at = get_within modules c.args.opened c.requires.within in
     let own = zip_read (λ (m : Module) found. IsTerminals (ports_of m) found) modules c.args.tables.now.ports.items c.args.opened at.0 c.index-ports.result.now
     c.requires.tables.ports at.1 c.index-ports.ensures in
     ap (step.Enter c.args.opened) (c.in_ok-fits.ensures (ports_of at.0) own.places (c.as_slice.ensures ∙ own.widths)

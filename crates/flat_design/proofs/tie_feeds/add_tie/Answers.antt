@@ -2,15 +2,15 @@ use Rattle.std.proofs.Common.{List, map, sym, subst}
 use Rattle.std.proofs.lemmas.Result.{on_ok_weaker}
 use Rattle.sdc_model.specs.FlatNets.{Feed}
 use Rattle.sdc_model.specs.Ranges.{indices}
-use Rattle.flat_design.specs.Feeds.{Adds, tied_bit}
-use Rattle.flat_design.proofs.AddedFeeds.{adds_none}
+use Rattle.flat_design.specs.Feeds.{Adds, IsFeed, tied_bit}
+use Rattle.flat_design.proofs.RowFacts.{rows_none}
 use Rattle.flat_design.proofs.TieFacts.{tied_none, tied_some}
 use Rattle.flat_design.proofs.tie_feeds.add_tie.Goals as goal
 
 pub returns-in-None : goal.returns-in-None
 returns-in-None c = λ found at.
     subst (λ (feeds : List Feed). Adds c.args.design.now feeds c.args.rows.now c.args.rows.now) (sym (tied_none found.path c.args.wire.now c.in-None.is))
-    (adds_none c.args.design.now c.args.rows.now)
+    (rows_none (IsFeed c.args.design.now) c.args.rows.now)
 
 pub returns-in-Some : goal.returns-in-Some
 returns-in-Some c = λ found at.

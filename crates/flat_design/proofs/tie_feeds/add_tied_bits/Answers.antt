@@ -3,11 +3,11 @@ use Rattle.std.proofs.lemmas.List.{take_all}
 use Rattle.sdc_model.specs.Instances.{Spot}
 use Rattle.sdc_model.specs.Ranges.{indices}
 use Rattle.sdc_model.specs.WellFormedNetlist.{IsNetBit}
-use Rattle.flat_design.specs.Feeds.{Adds, tied_bit}
+use Rattle.flat_design.specs.Feeds.{Adds, IsFeed, tied_bit}
 use Rattle.flat_design.specs.Hierarchy.{spots_in}
-use Rattle.flat_design.proofs.AddedFeeds.{adds_mapped}
 use Rattle.flat_design.proofs.CountFacts.{indices_length}
 use Rattle.flat_design.proofs.HierarchyFacts.{one_at}
+use Rattle.flat_design.proofs.RowFacts.{rows_mapped}
 use Rattle.flat_design.proofs.TieFacts.{bit_there}
 use Rattle.flat_design.proofs.tie_feeds.add_tied_bits.Goals as goal
 
@@ -26,7 +26,7 @@ loop-place-preserved c = λ found at.
     let bit : IsNetBit found.body.nets wire.name c.index_at-index.result =
     subst (λ (s : Spot). IsNetBit s.body.nets wire.name c.index_at-index.result) same
     (bit_there c.requires.there.0.body.nets wire c.loop-place.place c.index_at-index.result c.requires.there.2 c.index_at-index.ensures) in
-    adds_mapped c.args.design.now (tied_bit found.path wire c.args.value) (indices wire.range) c.loop-place.place c.index_at-index.result c.args.rows.now
+    rows_mapped (IsFeed c.args.design.now) (tied_bit found.path wire c.args.value) (indices wire.range) c.loop-place.place c.index_at-index.result c.args.rows.now
     c.loop-place.rows c.push.new.self _ c.index_at-index.ensures (record { net = c.net_number-to.ensures found at bit; origin = refl }) c.in_ok-push.ensures.ok
     (c.loop-place.invariant found at)
 

@@ -2,10 +2,10 @@ use Rattle.std.proofs.Common.{◌≡◌, ◌<◌, List, length, slice_get, Some,
 use Rattle.source_types.specs.declared.netlists.Module.{Module}
 use Rattle.source_types.specs.declared.netlists.Wire.{Wire}
 use Rattle.sdc_model.specs.FlatNets.{tie_feeds}
+use Rattle.flat_design.specs.Feeds.{IsFeed}
 use Rattle.flat_design.specs.Hierarchy.{spots_in}
-use Rattle.flat_design.proofs.AddedFeeds.{adds_flat}
-use Rattle.flat_design.proofs.PlaceFacts.{get_within}
-use Rattle.flat_design.proofs.TieFacts.{contains_at}
+use Rattle.flat_design.proofs.PlaceFacts.{contains_at, get_within}
+use Rattle.flat_design.proofs.RowFacts.{rows_flat}
 use Rattle.flat_design.proofs.tie_feeds.add_ties.Goals as goal
 
 pub add_tie-requires-clause-there : goal.add_tie-requires-clause-there
@@ -25,5 +25,5 @@ loop-place-preserved c = λ found at.
     let there : slice_get found.body.nets c.loop-place.place ≡ Some c.item_at-wire.result.now =
     ap (λ (m : Module). slice_get m.nets c.loop-place.place) (sym own)
     ∙ (ap (λ (xs : List Wire). slice_get xs c.loop-place.place) (sym c.as_slice.ensures) ∙ c.item_at-wire.ensures) in
-    adds_flat c.args.design.now (tie_feeds found.path) found.body.nets c.loop-place.place c.item_at-wire.result.now c.args.rows.now c.loop-place.rows
+    rows_flat (IsFeed c.args.design.now) (tie_feeds found.path) found.body.nets c.loop-place.place c.item_at-wire.result.now c.args.rows.now c.loop-place.rows
     c.add_tie.new.rows there (c.in_ok-add_tie.ensures found at) (c.loop-place.invariant found at)

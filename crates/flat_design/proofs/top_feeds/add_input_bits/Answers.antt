@@ -4,14 +4,14 @@ use Rattle.sdc_model.specs.FlatNets.{port_bit}
 use Rattle.sdc_model.specs.Instances.{top_spot}
 use Rattle.sdc_model.specs.Ranges.{indices}
 use Rattle.sdc_model.specs.WellFormedNetlist.{IsNetBit}
-use Rattle.flat_design.specs.Feeds.{Adds, input_feed}
+use Rattle.flat_design.specs.Feeds.{Adds, IsFeed, input_feed}
 use Rattle.flat_design.specs.Hierarchy.{spots_in}
 use Rattle.sdc_model.specs.Instances.{Spot}
-use Rattle.flat_design.proofs.AddedFeeds.{adds_mapped}
 use Rattle.flat_design.proofs.CountFacts.{indices_length}
 use Rattle.flat_design.proofs.HierarchyFacts.{one_at}
 use Rattle.flat_design.proofs.PinNumbers.{pin_small}
 use Rattle.flat_design.proofs.PortFacts.{port_bit_there}
+use Rattle.flat_design.proofs.RowFacts.{rows_mapped}
 use Rattle.flat_design.proofs.top_feeds.add_input_bits.Goals as goal
 
 pub net_number-to-requires-clause-there : goal.net_number-to-requires-clause-there
@@ -32,7 +32,7 @@ loop-place-preserved c =
     let there = port_bit_there design 0 port c.loop-place.place c.index_at-index.result c.requires.port c.index_at-index.ensures in
     let bit : IsNetBit top.body.nets port.name c.index_at-index.result =
     subst (λ (s : Spot). IsNetBit s.body.nets port.name c.index_at-index.result) (one_at (spots_in design) 0 there.0 top there.1 refl) there.2 in
-    adds_mapped design (input_feed port) (indices port.range) c.loop-place.place c.index_at-index.result c.args.rows.now c.loop-place.rows c.push.new.self _
+    rows_mapped (IsFeed design) (input_feed port) (indices port.range) c.loop-place.place c.index_at-index.result c.args.rows.now c.loop-place.rows c.push.new.self _
     c.index_at-index.ensures
     (record { net = c.net_number-to.ensures top refl bit; origin = c.requires.numbers c.loop-place.place c.index_at-index.result c.index_at-index.ensures })
     c.in_ok-push.ensures.ok c.loop-place.invariant

@@ -2,8 +2,8 @@ use Rattle.std.proofs.Common.{List, map, sym, subst}
 use Rattle.std.proofs.lemmas.Result.{on_ok_weaker}
 use Rattle.sdc_model.specs.FlatNets.{Feed}
 use Rattle.sdc_model.specs.Ranges.{indices}
-use Rattle.flat_design.specs.Feeds.{Adds, input_feed}
-use Rattle.flat_design.proofs.AddedFeeds.{adds_none}
+use Rattle.flat_design.specs.Feeds.{Adds, IsFeed, input_feed}
+use Rattle.flat_design.proofs.RowFacts.{rows_none}
 use Rattle.flat_design.proofs.TopFacts.{fed_input, fed_other, fed_output}
 use Rattle.flat_design.proofs.top_feeds.add_top_port.Goals as goal
 
@@ -17,9 +17,9 @@ returns-in-Input c =
 pub returns-in-Output : goal.returns-in-Output
 returns-in-Output c =
     subst (λ (feeds : List Feed). Adds c.args.design.now feeds c.args.rows.now c.args.rows.now) (sym (fed_output c.args.port.now c.in-Output.is))
-    (adds_none c.args.design.now c.args.rows.now)
+    (rows_none (IsFeed c.args.design.now) c.args.rows.now)
 
 pub returns-in-Other : goal.returns-in-Other
 returns-in-Other c =
     subst (λ (feeds : List Feed). Adds c.args.design.now feeds c.args.rows.now c.args.rows.now) (sym (fed_other c.args.port.now c.in-Other.is))
-    (adds_none c.args.design.now c.args.rows.now)
+    (rows_none (IsFeed c.args.design.now) c.args.rows.now)

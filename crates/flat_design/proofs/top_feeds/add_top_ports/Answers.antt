@@ -3,8 +3,8 @@ use Rattle.std.proofs.lemmas.List.{take_all}
 use Rattle.std.specs.List.{flat_map}
 use Rattle.source_types.specs.declared.netlists.Port.{Port}
 use Rattle.sdc_model.specs.FlatNets.{top_port_feeds}
-use Rattle.flat_design.specs.Feeds.{Adds}
-use Rattle.flat_design.proofs.AddedFeeds.{adds_flat}
+use Rattle.flat_design.specs.Feeds.{Adds, IsFeed}
+use Rattle.flat_design.proofs.RowFacts.{rows_flat}
 use Rattle.flat_design.proofs.TopFacts.{pins_passed, pins_passed_few, top_number, top_port}
 use Rattle.flat_design.proofs.top_feeds.add_top_ports.Goals as goal
 
@@ -45,7 +45,7 @@ loop-place-preserved c =
     let at : slice_get ports c.loop-place.place ≡ Some port =
     ap (λ (xs : List Port). slice_get xs c.loop-place.place) (sym c.as_slice.ensures) ∙ c.item_at-port.ensures in
     record {
-      added = adds_flat design top_port_feeds ports c.loop-place.place port c.args.rows.now c.loop-place.rows c.add_top_port.new.rows at c.in_ok-add_top_port.ensures
+      added = rows_flat (IsFeed design) top_port_feeds ports c.loop-place.place port c.args.rows.now c.loop-place.rows c.add_top_port.new.rows at c.in_ok-add_top_port.ensures
           c.loop-place.invariant.added;
       passed = pins_passed ports c.loop-place.place c.loop-place.first c.width-first.result port at c.width-first.ensures c.loop-place.invariant.passed;
     }
