@@ -10,6 +10,7 @@ mod ConnectedFacts
 mod ConnectionFacts
 mod CountFacts
 mod DesignFacts
+mod EmptyFacts
 mod EndFacts
 mod EndMarks
 mod EndSteps

@@ -27,7 +27,7 @@ pub(crate) fn build(alloc: Global, design: &Hierarchy<'_>) -> Result<Design, Sto
     let names = net_names(alloc, design, prefixes.as_slice())?;
     match net_ends(alloc, design, names.as_slice()) {
         Err(stop) => Err(stop),
-        Ok(ends) => assemble(alloc, design, prefixes.as_slice(), names, ends.as_slice()),
+        Ok(ends) => assemble(alloc, design, prefixes, names, ends.as_slice()),
     }
 }
 
@@ -35,17 +35,19 @@ pub(crate) fn build(alloc: Global, design: &Hierarchy<'_>) -> Result<Design, Sto
 fn assemble(
     alloc: Global,
     design: &Hierarchy<'_>,
-    prefixes: &[Text],
+    prefixes: List<Text>,
     net_names: List<Text>,
     ends: &[Source],
 ) -> Result<Design, Stop<At<DesignKind>>>
     requires is { IsHierarchy design.now }
-    requires prefixes { prefixes.now ≡ map prefix_in (spots_in design.now) }
+    requires prefixes { prefixes ≡ map prefix_in (spots_in design.now) }
     requires nets { net_names ≡ map net_name (flat_map nets_in (spots_in design.now)) }
     requires ends { AreEnds design.now ends.now }
     ensures { Meets result (IsAssembled design.now) }
 {
-    let cells = cell_names(alloc, design, prefixes)?;
+    let cells = cell_names(alloc, design, prefixes.as_slice())?;
+    // Pins take the most memory, and nothing reads prefixes any more.
+    drop(prefixes);
     let pins = pin_names(alloc, design, cells.as_slice())?;
     match check_cells(alloc, design, cells.as_slice(), pins.as_slice()) {
         Err(stop) => Err(stop),

@@ -1,6 +1,7 @@
 //! The design without a pin.
 
-ghost use Rattle.std.specs.Prelude.{◌≡◌, Ok};
+ghost use Rattle.std.specs.Prelude.{◌≡◌, IfOk, Ok};
+ghost use Rattle.sdc_model.specs.WellFormedDesign.{IsWellFormedDesign};
 ghost use Rattle.flat_design.specs.EmptyDesign.{empty_design};
 
 use sdc_base::{List, NoMemory, Text};
@@ -12,7 +13,8 @@ const NANOSECOND: i64 = 1_000_000;
 
 /// The design without a pin, whose times are in nanoseconds. It takes no memory.
 pub fn empty(alloc: Global) -> Result<Design, NoMemory>
-    ensures { result ≡ Ok empty_design }
+    ensures is { result ≡ Ok empty_design }
+    ensures formed { IfOk result IsWellFormedDesign }
 {
     Ok(Design {
         top: Text::new(alloc),

@@ -1,8 +1,8 @@
 //! The numbers of nets: where a net bit of a module stands among all net bits of a design.
 
-ghost use Rattle.std.specs.Prelude.{◌≡◌, IfOk, Some, slice_get, ℕ};
+ghost use Rattle.std.specs.Prelude.{◌≡◌, IfOk, Some, slice_get};
 ghost use Rattle.std.specs.List.{AllZip};
-ghost use Rattle.sdc_model.specs.FlatNets.{NetBit, net_bit};
+ghost use Rattle.sdc_model.specs.FlatNets.{net_bit};
 ghost use Rattle.sdc_model.specs.Instances.{Spot};
 ghost use Rattle.sdc_model.specs.Ranges.{from_to, indices};
 ghost use Rattle.sdc_model.specs.WellFormedNetlist.{IsBetween, IsNetBit, Selects};
@@ -113,10 +113,3 @@ pub(crate) fn net_number(
         None => 0,
     }
 }
-
-/// No net bit of a design has two numbers.
-pub(crate) fn numbers_are_one(_design: &Hierarchy<'_>)
-    requires { IsHierarchy _design.now }
-    ensures { (bit : NetBit) (number other : ℕ) → IsNumber (spots_in _design.now) number bit → IsNumber (spots_in _design.now) other bit
-        → number ≡ other }
-{}

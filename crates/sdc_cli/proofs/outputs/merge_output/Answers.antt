@@ -20,7 +20,7 @@ returns-then-bytes c =
 pub print-requires : goal.print-requires
 print-requires c =
     let printable : IsPrintable empty_design c.in-Ok.merged.mode = merge_is_printable nanoseconds c.requires.printable c.in-Ok.ensures.merged in
-    let design : c.in_ok-design.design ≡ empty_design = cc c.in_ok-design.ensures in
+    let design : c.in_ok-design.design ≡ empty_design = cc c.in_ok-design.ensures.is in
     rw design printable
 
 pub report_of-requires-clause-maps : goal.report_of-requires-clause-maps
@@ -34,7 +34,7 @@ returns c =
     let printable : IsPrintable empty_design merged.mode = merge_is_printable nanoseconds c.requires.printable is in
     let same : counted.0 ≡ merged = merge_once c.args.modes.now c.requires.printable counted.0 merged counted.1 is in
     let count : length (merged_text merged) ≡ c.in_ok-bytes.bytes = ap (λ (m : Merged). length (merged_text m)) (sym same) ∙ counted.2 in
-    let design : c.in_ok-design.design ≡ empty_design = cc c.in_ok-design.ensures in
+    let design : c.in_ok-design.design ≡ empty_design = cc c.in_ok-design.ensures.is in
     let text : c.in_ok-text.text ≡ merged_text merged = rw design at c.in_ok-text.ensures in
     let few : length merged.mode.clocks ≤ most_file_clocks = omega (arith, c.in-Ok.ensures.few, c.requires.few) in
     let back : SaysAgain merged.mode c.in_ok-text.text = rw text (reads_back empty_design merged.mode printable refl few) in
