@@ -97,7 +97,7 @@ fn cells_in_order(rt: HostRuntime) -> Result<(), Fail> {
 }
 
 /// Netlists over the row library, with their nets.
-static NETS: [(&str, &str); 5] = [
+static NETS: [(&str, &str); 7] = [
     // ports, then wires where they are declared or first used, then those of instances
     (
         "module top (i); input i; BUF b (i, k); wire m; half u (i); wire n; endmodule \
@@ -126,6 +126,12 @@ static NETS: [(&str, &str); 5] = [
         module one (o); output o; assign o = 1'b1; endmodule",
         " o=1 x=1 u/o=1",
     ),
+    // an empty name is one where it is not empty as a whole
+    (
+        "module top; m u (); endmodule module m; wire \\ ; endmodule",
+        " u/",
+    ),
+    ("module top; wire [1:0] \\ ; endmodule", " [1] [0]"),
 ];
 
 #[test]

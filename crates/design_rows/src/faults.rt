@@ -89,7 +89,7 @@ fn instances(rt: HostRuntime) -> Result<(), Fail> {
 }
 
 /// Faults of nets.
-static NETS: [(&str, &str); 22] = [
+static NETS: [(&str, &str); 32] = [
     (
         "module top; wire n; BUF a (.Z(n)); BUF b (.Z(n)); endmodule",
         "1: TwoDrivers",
@@ -103,6 +103,12 @@ static NETS: [(&str, &str); 22] = [
     ("module\ntop;\nwire \\a*b ; endmodule", "2: BadName"),
     ("module top; wire \\-a ; endmodule", "1: BadName"),
     ("module top; wire \\ ; endmodule", "1: BadName"),
+    // the other signs that escaped names can have
+    ("module top; wire \\a?b ; endmodule", "1: BadName"),
+    ("module top; wire \\a{b ; endmodule", "1: BadName"),
+    ("module top; wire \\a}b ; endmodule", "1: BadName"),
+    ("module top; wire \\a\"b ; endmodule", "1: BadName"),
+    ("module top; wire \\a\\b ; endmodule", "1: BadName"),
     // one source twice
     (
         "module top; wire a, b; assign a = b; assign a = b; endmodule",
@@ -137,16 +143,41 @@ static NETS: [(&str, &str); 22] = [
         "module top; wire a, b, c; assign a = b; assign b = c; assign b = a; endmodule",
         "1: AssignCycle",
     ),
-    // a net with two sources stands before a later cycle
+    // of one net two sources stand before a cycle
     (
         "module top; wire a, b; assign a = b; assign a = b; assign b = a; endmodule",
         "1: TwoDrivers",
+    ),
+    // of two nets the first counts
+    (
+        "module top; wire a, b, c; assign a = c; assign a = c; assign b = b; endmodule",
+        "1: TwoDrivers",
+    ),
+    (
+        "module top; wire b, a, c; assign a = c; assign a = c; assign b = b; endmodule",
+        "1: AssignCycle",
     ),
     // a net that only leads into a cycle has no fault
     (
         "module top; wire x; m u (.o(x)); endmodule\nmodule m (o); output o; wire b, c; \
         assign o = b; assign b = c; assign c = b; endmodule",
         "2: AssignCycle",
+    ),
+    // nor have the bits of a vector that lead to its last one, which feeds itself
+    (
+        "module top; wire [9:0] a; assign a[9:1] = a[8:0]; assign a[0] = a[0]; endmodule",
+        "1: AssignCycle",
+    ),
+    // a cycle through the ports of an inner module
+    (
+        "module thru (a, z); input a; output z; assign z = a; endmodule\n\
+        module top; wire x; thru u (.a(x), .z(x)); endmodule",
+        "2: AssignCycle",
+    ),
+    // two bits of an output port that are connected to one net
+    (
+        "module top; wire x; m u (.o({x, x})); endmodule\nmodule m (o); output [1:0] o; endmodule",
+        "1: TwoDrivers",
     ),
     // net by net, and of one net by kind
     (
@@ -191,7 +222,7 @@ fn nets(rt: HostRuntime) -> Result<(), Fail> {
 }
 
 /// Faults of cells.
-static CELLS: [(&str, &str); 8] = [
+static CELLS: [(&str, &str); 10] = [
     (
         "module m; BUF b (); endmodule module top; BUF \\a/b (); m a (); endmodule",
         "1: DoubleName",
@@ -218,6 +249,15 @@ static CELLS: [(&str, &str); 8] = [
         "module top; wire u; BUF u (); endmodule",
         " top 1000000 2 1 1 5",
     ),
+    // names of instances of modules are no names of objects
+    (
+        "module top; m u (); m u (); endmodule module m; endmodule",
+        " top 1000000 0 0 0 5",
+    ),
+    (
+        "module top; m \\a*b (); endmodule module m; endmodule",
+        " top 1000000 0 0 0 5",
+    ),
 ];
 
 #[test]
@@ -229,7 +269,7 @@ fn cells(rt: HostRuntime) -> Result<(), Fail> {
 }
 
 /// Libraries with netlists over them, and their faults.
-static LIBRARIES: [(&str, &str, &str); 7] = [
+static LIBRARIES: [(&str, &str, &str); 12] = [
     (
         "library (a) { cell (B2) { bus (D) { } } }",
         "module top; B2 u (); endmodule",
@@ -257,6 +297,33 @@ static LIBRARIES: [(&str, &str, &str); 7] = [
         "library (a) { cell (C) { pin (\"\") { } } }",
         "module top; C u (); endmodule",
         "1: BadName",
+    ),
+    // the other bytes that names of a library can have
+    (
+        "library (a) { cell (C) { pin (\"A B\") { } } }",
+        "module top; C u (); endmodule",
+        "1: BadName",
+    ),
+    (
+        "library (a) { cell (C) { pin (\"A\tB\") { } } }",
+        "module top; C u (); endmodule",
+        "1: BadName",
+    ),
+    (
+        "library (a) { cell (C) { pin (\"A\rB\") { } } }",
+        "module top; C u (); endmodule",
+        "1: BadName",
+    ),
+    (
+        "library (a) { cell (C) { pin (\"A\nB\") { } } }",
+        "module top; C u (); endmodule",
+        "1: BadName",
+    ),
+    // of two outputs of one name the first feeds the net, which has one source
+    (
+        "library (a) { cell (C) { pin (Z) { direction : output; } pin (Z) { direction : output; } } }",
+        "module top; C\nu (.Z(n)); endmodule",
+        "2: DoubleName",
     ),
     // two names before a bad one
     (

@@ -1,5 +1,5 @@
-//! Tests of flattening over the two readers: netlists over the row library, with what a reader of the rules counts by
-//! hand. What a clause of `flatten` says is not tested here.
+//! Tests of flattening over the two readers: netlists over small libraries, with what a reader of the rules counts by
+//! hand. The clauses of `flatten` say of any netlist what comes of it; the rows show that they say what is meant.
 #![tactic(auto)]
 
 #[cfg(test)]
