@@ -50,7 +50,7 @@ def run(program, folder):
 
 
 def measure(name, program, place, text, wanted):
-    """Prints the best of some runs over a text, which stands in the file that the program reads."""
+    """Prints the best of some runs over a text, which stands in the file that the program reads. It returns the memory."""
     with open(place, "w", encoding="ascii") as file:
         file.write(text)
     seconds, memory, told = min(run(program, os.path.dirname(place)) for _ in range(TIMES))
@@ -59,3 +59,4 @@ def measure(name, program, place, text, wanted):
     size = len(text) / MEBIBYTE
     each = f"{seconds / size:.3f} s and {memory / 1024 / size:.1f} MiB each"
     print(f"{name}, {size:.2f} MiB: {seconds:.2f} s, {memory / 1024:.1f} MiB ({each})", flush=True)
+    return memory
