@@ -116,7 +116,7 @@ too_many modules library top body named none large =
 
 -- the fault of an instance is the design's
 pub fault_lifted : (modules : List Module) (library : Library) (top : List ℕ) (body : Module) → module_named modules top ≡ Some body
-    → (stopped : Stop (At DesignKind)) → Meets {T = Unit {0}} (Err stopped) (AreSound modules library body) → Meets {T = Hierarchy} (Err stopped) (LaysOut modules library top)
+    → (stopped : Stop (At DesignKind)) → Meets {T = List ℕ} (Err stopped) (AreSound modules library body) → Meets {T = Hierarchy} (Err stopped) (LaysOut modules library top)
 fault_lifted modules library top body named (stop.Refused first) has = faulty_instance modules library top body first named has
 fault_lifted modules library top body named stop.NoMemory has = tt
 

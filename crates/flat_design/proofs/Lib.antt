@@ -37,6 +37,7 @@ mod NetFaults
 mod NetRead
 mod NetSpots
 mod NumberFacts
+mod OrderFacts
 mod PathsApart
 mod PinCounts
 mod PinFacts
@@ -48,6 +49,8 @@ mod RepeatFacts
 mod RowFacts
 mod SearchFacts
 mod SearchTurns
+mod SizeBounds
+mod SizeOrder
 mod SourceFacts
 mod StepFacts
 mod StepMeanings

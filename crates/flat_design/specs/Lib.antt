@@ -17,6 +17,7 @@ pub mod NetNumbers
 pub mod PinRows
 pub mod Repeats
 pub mod Searches
+pub mod Sizes
 pub mod SourceTable
 pub mod Sources
 pub mod Steps

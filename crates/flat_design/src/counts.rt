@@ -1,12 +1,13 @@
-//! How many bits the nets and the ports of a module have.
+//! How many bits the nets and the ports of a module have, and how many pins a library cell.
 
-ghost use Rattle.std.specs.Prelude.{◌≡◌, IfOk, map};
+ghost use Rattle.std.specs.Prelude.{◌≡◌, ◌<◌, IfOk, Some, length, map, slice_get};
+ghost use Rattle.source_types.specs.declared.library_cells.LibCell.{LibCell};
 ghost use Rattle.flat_design.specs.Layout.{net_count, port_count};
 
 use crate::layout::capped;
 use crate::ranges::width;
 use sdc_base::{List, NoMemory};
-use sdc_model::{Module, Port, Wire};
+use sdc_model::{Library, Module, Port, Wire};
 use std::alloc::Global;
 
 /// The number of bits of each module's nets.
@@ -40,4 +41,12 @@ pub(crate) fn port_count(ports: &[Port]) -> u64
         count = capped(count, width(port.range));
     }
     count
+}
+
+/// The number of pins of the library cell at a place.
+pub(crate) fn pin_count(library: &Library, kind: usize) -> u64
+    requires { kind < length library.now.cells }
+    ensures { (cell : LibCell) → slice_get library.now.cells kind ≡ Some cell → result ≡ length cell.pins }
+{
+    library.cells.as_slice()[kind].pins.len() as u64
 }

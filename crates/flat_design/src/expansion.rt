@@ -2,13 +2,12 @@
 
 ghost use Rattle.std.specs.Prelude.{◌≡◌, ◌<◌, ◌-◌, ◌^◌, IfOk, Some, length, map, slice_get};
 ghost use Rattle.sdc_model.specs.FlatDesign.{flat};
-ghost use Rattle.source_types.specs.declared.library_cells.LibCell.{LibCell};
 ghost use Rattle.sdc_model.specs.Flattening.{NoneOfInstances};
 ghost use Rattle.flat_design.specs.Expansion.{HasLayout, HasRoom, begun, frame_after, outer_of, turn_at, turn_of};
 ghost use Rattle.flat_design.specs.Layout.{net_count, top_layout};
 ghost use Rattle.flat_design.specs.Steps.{all_steps};
 
-use crate::counts::port_count;
+use crate::counts::{pin_count, port_count};
 use crate::layout::{Layout, Outer};
 use crate::walk::Step;
 use sdc_base::{List, NoMemory};
@@ -109,14 +108,6 @@ fn count_at(net_counts: &[u64], place: usize) -> u64
     ensures { slice_get net_counts.now place ≡ Some result }
 {
     net_counts[place]
-}
-
-/// The number of pins of the library cell at a place.
-fn pin_count(library: &Library, kind: usize) -> u64
-    requires { kind < length library.now.cells }
-    ensures { (cell : LibCell) → slice_get library.now.cells kind ≡ Some cell → result ≡ length cell.pins }
-{
-    library.cells.as_slice()[kind].pins.len() as u64
 }
 
 /// A module whose instances are all still to be expanded.

@@ -1,6 +1,6 @@
 //! The instances of a design: their first fault, too large a design, or what stands in it.
 
-ghost use Rattle.std.specs.Prelude.{◌≡◌, ◌<◌, Some, length, slice_get};
+ghost use Rattle.std.specs.Prelude.{◌≡◌, ◌<◌, IfOk, Some, length, slice_get, true};
 ghost use Rattle.std.specs.List.{All};
 ghost use Rattle.sdc_base.specs.Gives.{Meets};
 ghost use Rattle.source_types.specs.declared.libraries.Library.{Library};
@@ -11,12 +11,13 @@ ghost use Rattle.sdc_model.specs.WellFormedNetlist.{IsWellFormedNetlist};
 ghost use Rattle.sdc_model.specs.WellFormedDesign.{AreDistinct};
 ghost use Rattle.flat_design.specs.LayingOut.{AreSound, HasHierarchy, LaysOut, denoted, line_at, line_in};
 ghost use Rattle.flat_design.specs.Steps.{all_steps, module_names};
-ghost use Rattle.flat_design.specs.Walk.{IsWithin};
+ghost use Rattle.flat_design.specs.Walk.{AreOrdered, IsWithin, is_in};
 
-use crate::counts::net_counts;
+use crate::counts::{net_counts, port_count};
 use crate::expansion::expand;
 use crate::hierarchy::Hierarchy;
 use crate::items::item_at;
+use crate::sizes::is_counted_beyond;
 use crate::steps::{all_steps, module_place, tables_of};
 use crate::walk::{FaultAt, Step, walk};
 use sdc_base::{At, List, Stop, Text};
@@ -40,37 +41,38 @@ pub(crate) fn lay_out<'a>(
         None => Err(Stop::Refused(without_line(DesignKind::UnknownModule))),
         Some(place) => match check_instances(alloc, modules, known, place) {
             Err(stop) => Err(stop),
-            Ok(()) => expanded(alloc, modules, library, known, place),
+            Ok(order) => expanded(alloc, modules, library, known, order.as_slice(), place),
         },
     }
 }
 
-/// What stands in a design with the top module at a place, whose instances have no fault.
+/// What stands in a design with the top module at a place, whose instances have no fault. It is counted by modules, which
+/// come in order, before it is expanded.
 fn expanded<'a>(
     alloc: Global,
     modules: &'a [Module],
     library: &'a Library,
     steps: &[List<Step>],
+    order: &[usize],
     place: usize,
 ) -> Result<Hierarchy<'a>, Stop<At<DesignKind>>>
     requires top { place < length modules.now }
     requires netlist { IsWellFormedNetlist modules.now }
     requires steps { steps.now ≡ all_steps modules.now library.now }
+    requires order { AreOrdered steps.now order.now }
+    requires reached { is_in order.now place ≡ true }
     requires sound { (body : Module) → slice_get modules.now place ≡ Some body
         → NoneOfInstances modules.now library.now (flat modules.now library.now body) }
     ensures { (body : Module) → slice_get modules.now place ≡ Some body → Meets result (HasHierarchy modules.now library.now body) }
 {
     let counts = net_counts(alloc, modules)?;
+    let known = counts.as_slice();
     let top = item_at(modules, place);
-    let found = expand(
-        alloc,
-        modules,
-        library,
-        steps,
-        counts.as_slice(),
-        place,
-        top,
-    )?;
+    let ports = port_count(top.ports.as_slice());
+    if is_counted_beyond(alloc, library, steps, known, order, place, ports)? {
+        return Err(Stop::Refused(without_line(DesignKind::TooMany)));
+    }
+    let found = expand(alloc, modules, library, steps, known, place, top)?;
     match found {
         None => Err(Stop::Refused(without_line(DesignKind::TooMany))),
         Some(layout) => Ok(Hierarchy {
@@ -89,22 +91,24 @@ fn without_line(kind: DesignKind) -> At<DesignKind>
     At { line: 0, kind }
 }
 
-/// That no instance of a design has a fault, or the first fault of one. Modules are given by the steps of their
-/// instances too.
+/// The modules that a design uses, each behind those that it instantiates, where no instance has a fault; or the first
+/// fault of one. Modules are given by the steps of their instances too.
 fn check_instances(
     alloc: Global,
     modules: &[Module],
     steps: &[List<Step>],
     top: usize,
-) -> Result<(), Stop<At<DesignKind>>>
+) -> Result<List<usize>, Stop<At<DesignKind>>>
     requires top { top < length steps.now }
     requires within { All (All (IsWithin (length steps.now))) steps.now }
-    ensures { (library : Library) (body : Module) → AreDistinct (module_names modules.now)
+    ensures order { IfOk result (λ order. AreOrdered steps.now order) }
+    ensures reached { IfOk result (λ order. is_in order top ≡ true) }
+    ensures sound { (library : Library) (body : Module) → AreDistinct (module_names modules.now)
         → steps.now ≡ all_steps modules.now library → slice_get modules.now top ≡ Some body
         → Meets result (AreSound modules.now library body) }
 {
     match walk(alloc, steps, top) {
-        Ok(_order) => Ok(()),
+        Ok(order) => Ok(order),
         Err(Stop::Refused(found)) => Err(Stop::Refused(denoted(modules, found))),
         Err(Stop::NoMemory) => Err(Stop::NoMemory),
     }

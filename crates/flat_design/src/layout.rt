@@ -7,9 +7,9 @@ use sdc_base::{List, NoMemory};
 use std::alloc::Global;
 
 /// The most pins of a design.
-const MOST_PINS: u64 = 1_000_000;
+pub(crate) const MOST_PINS: u64 = 1_000_000;
 /// The most nets of a design, and the most instances.
-const MOST_THINGS: u64 = 4_000_000;
+pub(crate) const MOST_THINGS: u64 = 4_000_000;
 /// Where counts stand still: beyond each limit, also with the top among the instances.
 const CAP: u64 = 4_000_002;
 

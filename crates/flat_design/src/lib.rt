@@ -45,6 +45,7 @@ mod port_pins;
 mod ranges;
 mod repeated;
 mod returning;
+mod sizes;
 mod source_table;
 mod spot_feeds;
 mod steps;

@@ -6,6 +6,7 @@ use Rattle.source_types.specs.declared.netlists.Module.{Module}
 use Rattle.sdc_model.specs.Flattening.{Flattens}
 use Rattle.flat_design.specs.Names.{place_of}
 use Rattle.flat_design.specs.Steps.{all_steps, module_names}
+use Rattle.flat_design.specs.Walk.{AreOrdered}
 use Rattle.flat_design.proofs.LaidOut.{fault_lifted, hierarchy_lifted, steps_count, steps_within, top_at, unknown_top}
 use Rattle.flat_design.proofs.StepFacts.{module_within}
 use Rattle.flat_design.proofs.instances.lay_out.Goals as goal
@@ -53,7 +54,7 @@ returns-in-Err c =
     c.as_slice-known.ensures ∙ (c.in_ok-steps.ensures ∙ (ap (λ (ms : List Module). all_steps ms c.in_ok-tables.tables.library.now) c.in_ok-tables.ensures.0
     ∙ ap (λ (lib : Library). all_steps modules lib) c.in_ok-tables.ensures.1)) in
     let body = top_at modules c.args.top.now c.in-Some.place at in
-    fault_lifted modules library c.args.top.now body.0 body.1 c.in-Err.stop (c.in-Err.ensures library body.0 c.requires.0.1 steps body.2)
+    fault_lifted modules library c.args.top.now body.0 body.1 c.in-Err.stop (c.in-Err.ensures.sound library body.0 c.requires.0.1 steps body.2)
 
 pub expanded-requires-clause-top : goal.expanded-requires-clause-top
 expanded-requires-clause-top c =
@@ -70,6 +71,10 @@ expanded-requires-clause-steps c =
     c.as_slice-known.ensures ∙ (c.in_ok-steps.ensures ∙ (ap (λ (ms : List Module). all_steps ms c.in_ok-tables.tables.library.now) c.in_ok-tables.ensures.0
     ∙ ap (λ (lib : Library). all_steps c.args.modules.now lib) c.in_ok-tables.ensures.1))
 
+pub expanded-requires-clause-order : goal.expanded-requires-clause-order
+expanded-requires-clause-order c =
+    subst (AreOrdered c.as_slice-known.result.now) (sym c.as_slice.ensures) c.in-Ok.ensures.order
+
 pub expanded-requires-clause-sound : goal.expanded-requires-clause-sound
 expanded-requires-clause-sound c = λ body found.
     let modules = c.args.modules.now in
@@ -77,7 +82,7 @@ expanded-requires-clause-sound c = λ body found.
     let steps : c.as_slice-known.result.now ≡ all_steps modules library =
     c.as_slice-known.ensures ∙ (c.in_ok-steps.ensures ∙ (ap (λ (ms : List Module). all_steps ms c.in_ok-tables.tables.library.now) c.in_ok-tables.ensures.0
     ∙ ap (λ (lib : Library). all_steps modules lib) c.in_ok-tables.ensures.1)) in
-    c.in-Ok.ensures library body c.requires.0.1 steps found
+    c.in-Ok.ensures.sound library body c.requires.0.1 steps found
 
 pub returns : goal.returns
 returns c =
@@ -89,4 +94,4 @@ returns c =
     c.as_slice-known.ensures ∙ (c.in_ok-steps.ensures ∙ (ap (λ (ms : List Module). all_steps ms c.in_ok-tables.tables.library.now) c.in_ok-tables.ensures.0
     ∙ ap (λ (lib : Library). all_steps modules lib) c.in_ok-tables.ensures.1)) in
     let body = top_at modules c.args.top.now c.in-Some.place at in
-    hierarchy_lifted modules library c.args.top.now body.0 body.1 (c.in-Ok.ensures library body.0 c.requires.0.1 steps body.2) c.expanded.result (c.expanded.ensures body.0 body.2)
+    hierarchy_lifted modules library c.args.top.now body.0 body.1 (c.in-Ok.ensures.sound library body.0 c.requires.0.1 steps body.2) c.expanded.result (c.expanded.ensures body.0 body.2)
