@@ -9,6 +9,7 @@ mod CellPlaces
 mod ConnectedFacts
 mod ConnectionFacts
 mod CountFacts
+mod CycleFacts
 mod DesignFacts
 mod EmptyFacts
 mod EndFacts

@@ -1,27 +1,21 @@
 -- What a search along sources has reached, and what that tells.
 use Rattle.std.proofs.Common.{◌≡◌, ◌+◌, ◌-◌, ◌<◌, ◌≤◌, ◌||◌, ◌&&◌, ◌==◌, inl, inr, ℕ, zero, suc, Bool, true, false, not, cond, List, [], ◌∷◌, ◌++◌, get_or, length, set, slice_get, take, Some, refl, sym, ◌∙◌, ap, subst, arith}
+use Rattle.std.proofs.Math.Bool.{or-false}
 use Rattle.std.proofs.lemmas.Bool.{false≢true, true≢false, cases_eq, or_cases, or_left, or_right, eq-eqb, eqb-true, ne_eqb}
-use Rattle.std.proofs.lemmas.List.{get_or-set_same, get_or-set_other, length-append, length-set}
-use Rattle.std.specs.List.{Contains, list_any}
+use Rattle.std.proofs.lemmas.List.{get_or-set_other, get_or-set_same, length-append, length-set}
+use Rattle.std.proofs.lemmas.List.Folds.{list_any-append}
+use Rattle.std.proofs.lemmas.List.Sums.{sum_by-set}
+use Rattle.std.specs.List.{Contains, count_by, list_any}
 use Rattle.flat_design.specs.declared.feeds.FeedRow.{FeedRow}
 use Rattle.flat_design.specs.declared.feeds.Feeder.{Feeder}
 use Rattle.flat_design.specs.declared.feeds.Feeder.TheVariants as feeder
 use Rattle.flat_design.specs.declared.returning.Search.{Search}
 use Rattle.flat_design.specs.Sources.{fed}
 use Rattle.flat_design.specs.SourceTable.{IsLast, IsRowOf}
-use Rattle.flat_design.specs.Searches.{IsSearch, ReachesMore, has_net, is_left, is_net, is_reached, to_search, unreached_in}
+use Rattle.flat_design.specs.Searches.{ReachesMore, has_net, is_left, is_net, is_reached, to_search}
 use Rattle.flat_design.proofs.SourceFacts.{last_some, last_whole}
-use Rattle.flat_design.proofs.WalkSteps.{in_push}
 
 -- ---- truth values
-
-or_false : (b : Bool) → (b || false) ≡ b
-or_false true = refl
-or_false false = refl
-
-or_assoc : (a b c : Bool) → (a || (b || c)) ≡ ((a || b) || c)
-or_assoc true b c = refl
-or_assoc false b c = refl
 
 -- what one more step gives stands in front of what is left
 or_passed : (r x h : Bool) → ((r || x) || h) ≡ (r || (h || x))
@@ -45,12 +39,9 @@ grows false false true x kept = refl
 grows false false false true kept = refl
 grows false false false false kept = refl
 
--- ---- numbers in lists
-
-pub outside : (xs : List ℕ) (i : ℕ) → length xs ≤ i → get_or xs i 0 ≡ 0
-outside [] i h = refl
-outside (x ∷ xs) zero h = absurd (omega arith)
-outside (x ∷ xs) (suc i) h = outside xs i (omega arith)
+-- whether one more of a list passes a test
+pub any_push : {X : Type 0} (test : X → Bool) (xs : List X) (x : X) → list_any test (xs ++ x ∷ []) ≡ (list_any test xs || test x)
+any_push test xs x = list_any-append test xs (x ∷ []) ∙ ap (λ (b : Bool). list_any test xs || b) (or-false (test x))
 
 -- ---- nets among sources
 
@@ -77,37 +68,26 @@ has_at (source ∷ sources) net (suc k) inside is =
 pub contains_has : (sources : List Feeder) (net : ℕ) → Contains sources (feeder.Net net) → has_net sources net ≡ true
 contains_has sources net there = has_at sources net there.0 there.1 there.2
 
-has_push : (sources : List Feeder) (source : Feeder) (net : ℕ) → has_net (sources ++ source ∷ []) net ≡ (has_net sources net || is_net net source)
-has_push [] source net = or_false (is_net net source)
-has_push (first ∷ sources) source net =
-    ap (λ (t : Bool). is_net net first || t) (has_push sources source net) ∙ or_assoc (is_net net first) (has_net sources net) (is_net net source)
-
 -- ---- reaching nets
 
-unreached_set : (turn i : ℕ) (stamps : List ℕ) → i < length stamps → (get_or stamps i 0 == turn) ≡ false
-    → unreached_in turn (set stamps i turn) + 1 ≡ unreached_in turn stamps
-unreached_set turn i [] inside new = absurd (omega arith)
-unreached_set turn zero (stamp ∷ stamps) inside new =
-    let own : (turn == turn) ≡ true = eq-eqb turn turn refl in
-    let gone : ◌≡◌ {A = ℕ} (cond (turn == turn) 0 1) 0 = ap (λ (b : Bool). cond b 0 1) own in
-    let there : ◌≡◌ {A = ℕ} (cond (stamp == turn) 0 1) 1 = ap (λ (b : Bool). cond b 0 1) new in
-    omega (arith, gone, there)
-unreached_set turn (suc i) (stamp ∷ stamps) inside new =
-    let rest = unreached_set turn i stamps (omega arith) new in
-    omega (arith, rest)
-
-stamped : (stamps : List ℕ) (net other turn : ℕ) → net < length stamps
-    → (get_or (set stamps net turn) other 0 == turn) ≡ ((get_or stamps other 0 == turn) || (net == other))
-stamped stamps net other turn inside =
+reached_set : (marks : List Bool) (net other : ℕ) → net < length marks
+    → get_or (set marks net true) other false ≡ (get_or marks other false || (net == other))
+reached_set marks net other inside =
     elim (cases_eq net other) [
       | inl same ↦
-          let here : get_or (set stamps net turn) other 0 ≡ turn =
-          subst (λ (n : ℕ). get_or (set stamps net turn) n 0 ≡ turn) same (get_or-set_same stamps net turn 0 inside) in
-          eq-eqb (get_or (set stamps net turn) other 0) turn here ∙ sym (or_right (get_or stamps other 0 == turn) (net == other) (eq-eqb net other same))
+          subst (λ (n : ℕ). get_or (set marks net true) n false ≡ true) same (get_or-set_same marks net true false inside)
+          ∙ sym (or_right (get_or marks other false) (net == other) (eq-eqb net other same))
       | inr apart ↦
-          ap (λ (n : ℕ). n == turn) (get_or-set_other stamps net other turn 0 (λ e. apart (sym e)))
-          ∙ (sym (or_false (get_or stamps other 0 == turn)) ∙ ap (λ (b : Bool). (get_or stamps other 0 == turn) || b) (sym (ne_eqb net other apart)))
+          get_or-set_other marks net other true false (λ e. apart (sym e))
+          ∙ (sym (or-false (get_or marks other false)) ∙ ap (λ (b : Bool). get_or marks other false || b) (sym (ne_eqb net other apart)))
     ]
+
+unreached_set : (marks : List Bool) (net : ℕ) → net < length marks → get_or marks net false ≡ false
+    → count_by not (set marks net true) + 1 ≡ count_by not marks
+unreached_set marks net inside fresh =
+    let sums = sum_by-set (λ (mark : Bool). cond (not mark) 1 0) marks net true false inside in
+    let one : ◌≡◌ {A = ℕ} (cond (not (get_or marks net false)) 1 0) 1 = ap (λ (mark : Bool). cond (not mark) 1 0) fresh in
+    omega (arith, sums, one)
 
 -- a net that is left is one that is newly reached
 left_new : (l old x : Bool) → (x ≡ true → old ≡ false) → (l || x) ≡ (l || ((old || x) && not old))
@@ -117,41 +97,27 @@ left_new false true false new = refl
 left_new false false true new = refl
 left_new false false false new = refl
 
-pub reach_new : (old new : Search) (net : ℕ) → new.turn ≡ old.turn → new.reached.items ≡ set old.reached.items net old.turn
+pub reach_new : (old new : Search) (net : ℕ) → new.reached.items ≡ set old.reached.items net true
     → new.left.items ≡ old.left.items ++ net ∷ [] → net < length old.reached.items → is_reached old net ≡ false
     → ReachesMore (λ (other : ℕ). net == other) old new
-reach_new old new net turn stamps left inside fresh =
+reach_new old new net marks left inside fresh =
     let reached : (other : ℕ) → is_reached new other ≡ (is_reached old other || (net == other)) =
-    λ other.
-    ap (λ (t : ℕ). get_or new.reached.items other 0 == t) turn
-    ∙ (ap (λ (xs : List ℕ). get_or xs other 0 == old.turn) stamps ∙ stamped old.reached.items net other old.turn inside) in
+    λ other. ap (λ (xs : List Bool). get_or xs other false) marks ∙ reached_set old.reached.items net other inside in
     record {
-      turn = turn;
-      count = ap length stamps ∙ length-set old.reached.items net old.turn;
+      count = ap length marks ∙ length-set old.reached.items net true;
       reached = reached;
       left = λ other.
           ap (λ (xs : List ℕ). list_any (λ (one : ℕ). one == other) xs) left
-          ∙ (in_push old.left.items net other
+          ∙ (any_push (λ (one : ℕ). one == other) old.left.items net
           ∙ (left_new (is_left old other) (is_reached old other) (net == other)
           (λ same. ap (is_reached old) (sym (eqb-true net other same)) ∙ fresh)
           ∙ ap (λ (r : Bool). is_left old other || (r && not (is_reached old other))) (sym (reached other))));
       weight =
-          let fewer = unreached_set old.turn net old.reached.items inside fresh in
-          let a : unreached_in new.turn new.reached.items ≡ unreached_in old.turn (set old.reached.items net old.turn) =
-          ap (λ (t : ℕ). unreached_in t new.reached.items) turn ∙ ap (unreached_in old.turn) stamps in
+          let fewer = unreached_set old.reached.items net inside fresh in
+          let a : count_by not new.reached.items ≡ count_by not (set old.reached.items net true) = ap (count_by not) marks in
           let b : length new.left.items ≡ length old.left.items + 1 = ap length left ∙ length-append old.left.items (net ∷ []) in
           omega (arith, fewer, a, b);
     }
-
-any_default : (xs : List ℕ) (i d e : ℕ) → i < length xs → get_or xs i d ≡ get_or xs i e
-any_default [] i d e inside = absurd (omega arith)
-any_default (x ∷ xs) zero d e inside = refl
-any_default (x ∷ xs) (suc i) d e inside = any_default xs i d e (omega arith)
-
-pub stamp_fresh : (stamps : List ℕ) (net stamp turn : ℕ) → net < length stamps → stamp ≡ get_or stamps net stamp → (stamp ≡ turn → ⊥)
-    → (get_or stamps net 0 == turn) ≡ false
-stamp_fresh stamps net stamp turn inside is apart =
-    ne_eqb (get_or stamps net 0) turn (λ e. apart (is ∙ (any_default stamps net stamp 0 inside ∙ e)))
 
 -- ---- reaching the sources of a net, from its last row back
 
@@ -159,7 +125,6 @@ pub record Reaching (rows : List FeedRow) (net wanted last : ℕ) (found : Bool)
   pub within : last ≤ length rows
   pub feeds : IsRowOf rows net last
   pub wanted_too : (found || has_net (fed (take last rows) net) wanted) ≡ has_net (fed rows net) wanted
-  pub turn : now.turn ≡ old.turn
   pub count : length now.reached.items ≡ length old.reached.items
   pub kept : (m : ℕ) → is_reached old m ≡ true → is_reached now m ≡ true
   pub reached : (m : ℕ) → (is_reached now m || has_net (fed (take last rows) net) m) ≡ (is_reached old m || has_net (fed rows net) m)
@@ -174,7 +139,6 @@ reaching_start rows net wanted last old is =
       within = is.within;
       feeds = is.feeds;
       wanted_too = ap (λ (fs : List Feeder). has_net fs wanted) all;
-      turn = refl;
       count = refl;
       kept = λ m h. h;
       reached = λ m. ap (λ (fs : List Feeder). is_reached old m || has_net fs m) all;
@@ -195,14 +159,13 @@ reaching_more rows net wanted place at row found old now new so is own more =
     let split : fed (take (suc place) rows) net ≡ fed (take at rows) net ++ row.from ∷ [] =
     (last_some rows net (suc place) place row here is).1 ∙ ap (λ (fs : List Feeder). fs ++ row.from ∷ []) before.whole in
     let has : (m : ℕ) → has_net (fed (take (suc place) rows) net) m ≡ (has_net (fed (take at rows) net) m || is_net m row.from) =
-    λ m. ap (λ (fs : List Feeder). has_net fs m) split ∙ has_push (fed (take at rows) net) row.from m in
+    λ m. ap (λ (fs : List Feeder). has_net fs m) split ∙ any_push (λ (source : Feeder). is_net m source) (fed (take at rows) net) row.from in
     record {
       within = omega (arith, so.within, own.within);
       feeds = before.feeds;
       wanted_too =
           or_passed found (is_net wanted row.from) (has_net (fed (take at rows) net) wanted)
           ∙ (ap (λ (b : Bool). found || b) (sym (has wanted)) ∙ so.wanted_too);
-      turn = more.turn ∙ so.turn;
       count = more.count ∙ so.count;
       kept = λ m h. more.reached m ∙ or_left (is_reached now m) (is_net m row.from) (so.kept m h);
       reached = λ m.
@@ -233,11 +196,10 @@ reaching_next rows net wanted last at row found later old now new so some is own
 reaching_end : (rows : List FeedRow) (net wanted : ℕ) (found : Bool) (old now : Search) → Reaching rows net wanted 0 found old now
     → (found ≡ has_net (fed rows net) wanted) × ReachesMore (has_net (fed rows net)) old now
 reaching_end rows net wanted found old now so = (
-  sym (or_false found) ∙ so.wanted_too,
+  sym (or-false found) ∙ so.wanted_too,
   record {
-    turn = so.turn;
     count = so.count;
-    reached = λ m. sym (or_false (is_reached now m)) ∙ so.reached m;
+    reached = λ m. sym (or-false (is_reached now m)) ∙ so.reached m;
     left = so.left;
     weight = so.weight;
   },
@@ -247,9 +209,3 @@ pub reaching_done : (rows : List FeedRow) (net wanted last : ℕ) (found : Bool)
     → (found ≡ has_net (fed rows net) wanted) × ReachesMore (has_net (fed rows net)) old now
 reaching_done rows net wanted zero found old now so none = reaching_end rows net wanted found old now so
 reaching_done rows net wanted (suc last) found old now so none = absurd (omega arith)
-
-pub own_search : (nets : ℕ) (search : Search) → IsSearch nets search → IsSearch (length search.reached.items) search
-own_search nets search is = record { count = refl; past = is.past }
-
-pub same_search : (nets other : ℕ) (search : Search) → other ≡ nets → IsSearch other search → IsSearch nets search
-same_search nets other search same is = record { count = is.count ∙ same; past = is.past }

@@ -1,16 +1,15 @@
 -- What a search from a net has found at each of its turns, and whether sources come back.
-use Rattle.std.proofs.Common.{◌≡◌, ◌+◌, ◌<◌, ◌⊎◌, Option, Some, None, is_some, ◌||◌, ◌&&◌, ◌==◌, inl, inr, ℕ, zero, suc, Bool, true, false, not, List, [], ◌∷◌, ◌++◌, get_or, length, refl, sym, ◌∙◌, ap, subst, arith}
+use Rattle.std.proofs.Common.{◌≡◌, ◌+◌, ◌<◌, ◌⊎◌, ◌||◌, ◌&&◌, ◌==◌, inl, inr, ℕ, Bool, true, false, not, List, [], ◌∷◌, ◌++◌, get_or, length, refl, sym, ◌∙◌, ap, subst, arith}
 use Rattle.std.proofs.lemmas.Bool.{false≢true, true≢false, cases_Bool, cases_eq, cases_lt, or_cases, or_left, or_right, eq-eqb, eqb-true}
-use Rattle.std.proofs.lemmas.List.{length-append}
-use Rattle.std.specs.List.{Contains, list_any}
+use Rattle.std.proofs.lemmas.List.{get_or_past, length-append}
+use Rattle.std.specs.List.{Contains, count_by, list_any}
 use Rattle.flat_design.specs.declared.feeds.FeedRow.{FeedRow}
 use Rattle.flat_design.specs.declared.feeds.Feeder.TheVariants as feeder
 use Rattle.flat_design.specs.declared.returning.Search.{Search}
 use Rattle.flat_design.specs.Sources.{LeadsTo, Returns, fed}
-use Rattle.flat_design.specs.Searches.{IsBegun, IsSearch, ReachesMore, has_net, is_left, is_reached, to_search, unreached_in}
-use Rattle.flat_design.proofs.SearchFacts.{contains_has, has_contains, outside}
+use Rattle.flat_design.specs.Searches.{IsBegun, ReachesMore, has_net, is_left, is_reached, to_search}
+use Rattle.flat_design.proofs.SearchFacts.{any_push, contains_has, has_contains}
 use Rattle.flat_design.proofs.SourceFacts.{leads_more}
-use Rattle.flat_design.proofs.WalkSteps.{in_push}
 
 -- ---- ways along sources
 
@@ -29,26 +28,19 @@ abbrev pub IsFollowed : List FeedRow → ℕ → Search → ℕ → Type 0
 IsFollowed rows net search m = ((e : ℕ) → has_net (fed rows m) e ≡ true → is_reached search e ≡ true) × (has_net (fed rows m) net ≡ false)
 
 pub record Searching (rows : List FeedRow) (nets net : ℕ) (search : Search) : Type 0 where
-  pub is : IsSearch nets search
-  pub turn : 0 < search.turn
+  pub count : length search.reached.items ≡ nets
   pub found : (m : ℕ) → is_reached search m ≡ true → (ways : List ℕ) × LeadsTo rows net ways m
   pub left : (m : ℕ) → is_left search m ≡ true → (m ≡ net) ⊎ (is_reached search m ≡ true)
   pub followed : (m : ℕ) → (m ≡ net) ⊎ (is_reached search m ≡ true) → (is_left search m ≡ true) ⊎ IsFollowed rows net search m
 
-pub searching_start : (rows : List FeedRow) (nets net : ℕ) (begun now : Search) → IsSearch nets begun → IsBegun begun
-    → now.turn ≡ begun.turn → now.reached.items ≡ begun.reached.items → now.left.items ≡ begun.left.items ++ net ∷ []
-    → Searching rows nets net now
-searching_start rows nets net begun now is own turn stamps left =
-    let none : (m : ℕ) → is_reached now m ≡ false =
-    λ m. ap (λ (t : ℕ). get_or now.reached.items m 0 == t) turn ∙ (ap (λ (xs : List ℕ). get_or xs m 0 == begun.turn) stamps ∙ own.none m) in
+pub searching_start : (rows : List FeedRow) (nets net : ℕ) (begun now : Search) → IsBegun nets begun
+    → now.reached.items ≡ begun.reached.items → now.left.items ≡ begun.left.items ++ net ∷ [] → Searching rows nets net now
+searching_start rows nets net begun now own marks left =
+    let none : (m : ℕ) → is_reached now m ≡ false = λ m. ap (λ (xs : List Bool). get_or xs m false) marks ∙ own.none m in
     let one : now.left.items ≡ net ∷ [] = left ∙ ap (λ (xs : List ℕ). xs ++ net ∷ []) own.left in
     let in_one : (m : ℕ) → is_left now m ≡ ((net == m) || false) = λ m. ap (λ (xs : List ℕ). list_any (λ (other : ℕ). other == m) xs) one in
     record {
-      is = record {
-        count = ap length stamps ∙ is.count;
-        past = λ m. let e = ap (λ (xs : List ℕ). get_or xs m 0) stamps in omega (arith, e, turn, is.past m);
-      };
-      turn = omega (arith, turn, own.turn);
+      count = ap length marks ∙ own.count;
       found = λ m h. absurd (true≢false (sym h ∙ none m));
       left = λ m h.
           elim (or_cases (net == m) false (sym (in_one m) ∙ h)) [ inl same ↦ inl (sym (eqb-true net m same)) | inr bad ↦ absurd (false≢true bad) ];
@@ -60,41 +52,30 @@ searching_start rows nets net begun now is own turn stamps left =
     }
 
 -- what is left or reached is a net that there is
-reached_within : (nets m : ℕ) (search : Search) → IsSearch nets search → 0 < search.turn → is_reached search m ≡ true → m < nets
-reached_within nets m search is turn h =
+reached_within : (nets m : ℕ) (search : Search) → length search.reached.items ≡ nets → is_reached search m ≡ true → m < nets
+reached_within nets m search count h =
     elim (cases_lt m nets) [
       | inl inside ↦ inside
-      | inr past ↦
-          let zero_there : get_or search.reached.items m 0 ≡ 0 = outside search.reached.items m (omega (arith, past, is.count)) in
-          let same : get_or search.reached.items m 0 ≡ search.turn = eqb-true (get_or search.reached.items m 0) search.turn h in
-          absurd (omega (arith, zero_there, same, turn))
+      | inr past ↦ absurd (true≢false (sym h ∙ get_or_past search.reached.items m false (omega (arith, past, count))))
     ]
 
 pub left_within : (rows : List FeedRow) (nets net m : ℕ) (search : Search) → Searching rows nets net search → net < nets → is_left search m ≡ true → m < nets
 left_within rows nets net m search so inside h =
-    elim (so.left m h) [ inl same ↦ omega (arith, same) | inr reached ↦ reached_within nets m search so.is so.turn reached ]
+    elim (so.left m h) [ inl same ↦ omega (arith, same) | inr reached ↦ reached_within nets m search so.count reached ]
 
 -- a net is taken from those that are left
 pub record Takes (from : ℕ) (old new : Search) : Type 0 where
-  pub turn : new.turn ≡ old.turn
   pub reached : new.reached.items ≡ old.reached.items
   pub left : old.left.items ≡ new.left.items ++ from ∷ []
 
 taken_left : (from : ℕ) (old new : Search) → Takes from old new → (m : ℕ) → is_left old m ≡ (is_left new m || (from == m))
-taken_left from old new taken m = ap (λ (xs : List ℕ). list_any (λ (other : ℕ). other == m) xs) taken.left ∙ in_push new.left.items from m
+taken_left from old new taken m = ap (λ (xs : List ℕ). list_any (λ (other : ℕ). other == m) xs) taken.left ∙ any_push (λ (other : ℕ). other == m) new.left.items from
 
 pub taken_is : (from : ℕ) (old new : Search) → Takes from old new → is_left old from ≡ true
 taken_is from old new taken = taken_left from old new taken from ∙ or_right (is_left new from) (from == from) (eq-eqb from from refl)
 
-pub taken_search : (nets from : ℕ) (old new : Search) → Takes from old new → IsSearch nets old → IsSearch nets new
-taken_search nets from old new taken is = record {
-  count = ap length taken.reached ∙ is.count;
-  past = λ m. let e = ap (λ (xs : List ℕ). get_or xs m 0) taken.reached in omega (arith, e, taken.turn, is.past m);
-}
-
 taken_reached : (from : ℕ) (old new : Search) → Takes from old new → (m : ℕ) → is_reached new m ≡ is_reached old m
-taken_reached from old new taken m =
-    ap (λ (t : ℕ). get_or new.reached.items m 0 == t) taken.turn ∙ ap (λ (xs : List ℕ). get_or xs m 0 == old.turn) taken.reached
+taken_reached from old new taken m = ap (λ (xs : List Bool). get_or xs m false) taken.reached
 
 way_to : (rows : List FeedRow) (nets net from : ℕ) (old : Search) → Searching rows nets net old → is_left old from ≡ true
     → (from ≡ net) ⊎ ((ways : List ℕ) × LeadsTo rows net ways from)
@@ -116,8 +97,8 @@ first_true true b h = refl
 first_true false b h = absurd (false≢true h)
 
 pub turn_on : (rows : List FeedRow) (nets net from : ℕ) (old taken new : Search) → Searching rows nets net old → Takes from old taken
-    → has_net (fed rows from) net ≡ false → ReachesMore (has_net (fed rows from)) taken new → IsSearch nets new → Searching rows nets net new
-turn_on rows nets net from old taken new so takes none more is =
+    → has_net (fed rows from) net ≡ false → ReachesMore (has_net (fed rows from)) taken new → Searching rows nets net new
+turn_on rows nets net from old taken new so takes none more =
     let before : (m : ℕ) → is_reached taken m ≡ is_reached old m = taken_reached from old taken takes in
     let way = way_to rows nets net from old so (taken_is from old taken takes) in
     let kept : (m : ℕ) → is_reached old m ≡ true → is_reached new m ≡ true =
@@ -140,8 +121,7 @@ turn_on rows nets net from old taken new so takes none more is =
       | inr f ↦ inr (λ e g. kept e (f.0 e g), f.1)
     ] in
     record {
-      is = is;
-      turn = omega (arith, more.turn, takes.turn, so.turn);
+      count = more.count ∙ (ap length takes.reached ∙ so.count);
       found = λ m h.
           elim (or_cases (is_reached taken m) (has_net (fed rows from) m) (sym (more.reached m) ∙ h)) [
             | inl r ↦ so.found m (sym (before m) ∙ r)
@@ -173,24 +153,11 @@ turn_on rows nets net from old taken new so takes none more is =
 
 pub turn_falls : (from : ℕ) (says : ℕ → Bool) (old taken new : Search) → Takes from old taken → ReachesMore says taken new → to_search new < to_search old
 turn_falls from says old taken new takes more =
-    let a : unreached_in taken.turn taken.reached.items ≡ unreached_in old.turn old.reached.items =
-    ap (λ (t : ℕ). unreached_in t taken.reached.items) takes.turn ∙ ap (unreached_in old.turn) takes.reached in
+    let a : count_by not taken.reached.items ≡ count_by not old.reached.items = ap (count_by not) takes.reached in
     let b : length old.left.items ≡ length taken.left.items + 1 = ap length takes.left ∙ length-append taken.left.items (from ∷ []) in
     omega (arith, a, b, more.weight)
 
 -- ---- at the end
-
-none_there : (n : ℕ) → (0 < n → ⊥) → n ≡ 0
-none_there zero none = refl
-none_there (suc n) none = absurd (none (omega arith))
-
-pub none_popped : (popped : Option ℕ) (size : ℕ) → ((n : ℕ) → popped ≡ Some n → ⊥) → (0 < size → is_some popped ≡ true) → size ≡ 0
-none_popped None size none some = none_there size (λ more. false≢true (some more))
-none_popped (Some n) size none some = absurd (none n refl)
-
-pub no_items : (xs : List ℕ) → length xs ≡ 0 → xs ≡ []
-no_items [] is = refl
-no_items (x ∷ xs) is = absurd (omega arith)
 
 no_way : (rows : List FeedRow) (net : ℕ) (search : Search) → ((m : ℕ) → (m ≡ net) ⊎ (is_reached search m ≡ true) → IsFollowed rows net search m)
     → (ways : List ℕ) (m : ℕ) → (m ≡ net) ⊎ (is_reached search m ≡ true) → LeadsTo rows m ways net → ⊥

@@ -1,6 +1,7 @@
 pub mod AddedRows
 pub mod Building
 pub mod Connected
+pub mod Cycles
 pub mod DesignParts
 pub mod EmptyDesign
 pub mod Ends

@@ -1,7 +1,7 @@
 -- A search along sources. This project's own words.
--- It reads: a net was reached in a search where it has the number of the search's turn.
-use Rattle.std.specs.Prelude.{◌≡◌, ◌+◌, ◌<◌, ◌≤◌, ◌==◌, ◌||◌, ◌&&◌, ℕ, Bool, true, false, not, List, [], ◌∷◌, get_or, length, if◌then◌else◌}
-use Rattle.std.specs.List.{list_any}
+-- It reads: nets that were reached are marked, and those of them that are left are listed.
+use Rattle.std.specs.Prelude.{◌≡◌, ◌+◌, ◌==◌, ◌||◌, ◌&&◌, ℕ, Bool, true, false, not, List, [], get_or, length}
+use Rattle.std.specs.List.{count_by, list_any}
 use Rattle.flat_design.specs.declared.feeds.FeedRow.{FeedRow}
 use Rattle.flat_design.specs.declared.feeds.Feeder.{Feeder}
 use Rattle.flat_design.specs.declared.feeds.Feeder.TheVariants as feeder
@@ -12,31 +12,21 @@ abbrev pub TellsReturn : List FeedRow → ℕ → Bool → Type 0
 TellsReturn rows net true = Returns rows net
 TellsReturn rows net false = Returns rows net → ⊥
 
--- a search over so many nets: no net has the number of a turn to come
-pub record IsSearch (nets : ℕ) (search : Search) : Type 0 where
-  pub count : length search.reached.items ≡ nets
-  pub past : (net : ℕ) → get_or search.reached.items net 0 ≤ search.turn
-
 abbrev pub is_reached : Search → ℕ → Bool
-is_reached search net = get_or search.reached.items net 0 == search.turn
+is_reached search net = get_or search.reached.items net false
 
 abbrev pub is_left : Search → ℕ → Bool
 is_left search net = list_any (λ (other : ℕ). other == net) search.left.items
 
--- a search that begins has reached nothing
-pub record IsBegun (search : Search) : Type 0 where
-  pub turn : 0 < search.turn
+-- a search among so many nets that has reached nothing
+pub record IsBegun (nets : ℕ) (search : Search) : Type 0 where
+  pub count : length search.reached.items ≡ nets
   pub none : (net : ℕ) → is_reached search net ≡ false
   pub left : search.left.items ≡ []
 
--- how many nets were not reached
-abbrev pub unreached_in : ℕ → List ℕ → ℕ
-unreached_in turn [] = 0
-unreached_in turn (stamp ∷ stamps) = (if stamp == turn then 0 else 1) + unreached_in turn stamps
-
 -- how much a search may still have to look at
 abbrev pub to_search : Search → ℕ
-to_search search = unreached_in search.turn search.reached.items + length search.left.items
+to_search search = count_by not search.reached.items + length search.left.items
 
 -- ---- sources
 
@@ -50,7 +40,6 @@ has_net sources net = list_any (λ (source : Feeder). is_net net source) sources
 
 -- ---- steps of a search: the nets that `says` tells are reached, and those of them are left that were not before
 pub record ReachesMore (says : ℕ → Bool) (old new : Search) : Type 0 where
-  pub turn : new.turn ≡ old.turn
   pub count : length new.reached.items ≡ length old.reached.items
   pub reached : (net : ℕ) → is_reached new net ≡ (is_reached old net || says net)
   pub left : (net : ℕ) → is_left new net ≡ (is_left old net || (is_reached new net && not (is_reached old net)))

@@ -15,6 +15,7 @@ mod cell_pins;
 mod connected;
 mod connections;
 mod counts;
+mod cycles;
 mod design;
 mod design_cells;
 mod design_nets;

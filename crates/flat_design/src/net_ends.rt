@@ -5,6 +5,7 @@ ghost use Rattle.std.specs.List.{flat_map};
 ghost use Rattle.sdc_base.specs.Gives.{Meets};
 ghost use Rattle.sdc_model.specs.Flattening.{FirstOfNets};
 ghost use Rattle.sdc_model.specs.FlatNets.{net_name, nets_in};
+ghost use Rattle.flat_design.specs.Cycles.{AreReturning};
 ghost use Rattle.flat_design.specs.Ends.{HaveEnds};
 ghost use Rattle.flat_design.specs.Hierarchy.{IsHierarchy, spots_in};
 ghost use Rattle.flat_design.specs.NamedFaults.{flat_of};
@@ -13,6 +14,7 @@ ghost use Rattle.flat_design.specs.Sources.{AreWithin};
 ghost use Rattle.flat_design.specs.SourceTable.{IsLinked};
 
 use crate::all_feeds::all_feeds;
+use crate::cycles::may_return;
 use crate::ends::ends_of;
 use crate::hierarchy::Hierarchy;
 use crate::net_faults::check_nets;
@@ -35,7 +37,10 @@ pub(crate) fn net_ends(
     let table = source_table(alloc, rows.as_slice(), design.layout.nets as usize)?;
     let found = found_ends(alloc, &table)?;
     match found {
-        None => Err(net_fault(alloc, design, net_names, &table)),
+        None => {
+            let returning = may_return(alloc, &table)?;
+            Err(net_fault(alloc, design, net_names, &table, returning.as_slice()))
+        }
         Some(ends) => sound_ends(alloc, design, net_names, &table, ends),
     }
 }
@@ -71,14 +76,16 @@ fn net_fault(
     design: &Hierarchy<'_>,
     net_names: &[Text],
     table: &SourceTable<'_>,
+    returning: &[bool],
 ) -> Stop<At<DesignKind>>
     requires is { IsHierarchy design.now }
     requires names { net_names.now ≡ map net_name (flat_map nets_in (spots_in design.now)) }
     requires table { IsTableOf design.now table.now }
     requires faulty { IsFaulty table.now.rows.now (length table.now.last) }
+    requires returning { AreReturning table.now.rows.now (length table.now.last) returning.now }
     ensures { Refuses result (FirstOfNets (flat_of design.now)) }
 {
-    match check_nets(alloc, design, net_names, table, false) {
+    match check_nets(alloc, design, net_names, table, returning) {
         Err(stop) => stop,
         Ok(()) => unreachable!(),
     }
@@ -98,7 +105,7 @@ fn sound_ends(
     requires ends { HaveEnds table.now.rows.now (length table.now.last) ends }
     ensures { Meets result (HasNetEnds design.now) }
 {
-    match check_nets(alloc, design, net_names, table, true) {
+    match check_nets(alloc, design, net_names, table, &[]) {
         Err(stop) => Err(stop),
         Ok(()) => Ok(ends),
     }

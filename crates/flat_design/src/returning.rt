@@ -1,9 +1,9 @@
 //! Whether following sources from a net comes back to it.
 
-ghost use Rattle.std.specs.Prelude.{◌≡◌, ◌<◌, ◌==◌, ◌||◌, [], IfOk, OnOk, length};
+ghost use Rattle.std.specs.Prelude.{◌≡◌, ◌<◌, ◌==◌, ◌||◌, IfOk, OnOk, length};
 ghost use Rattle.flat_design.specs.Sources.{fed};
 ghost use Rattle.flat_design.specs.SourceTable.{IsLinked, IsNetWithin};
-ghost use Rattle.flat_design.specs.Searches.{IsBegun, IsSearch, ReachesMore, TellsReturn, has_net, is_net};
+ghost use Rattle.flat_design.specs.Searches.{IsBegun, ReachesMore, TellsReturn, has_net, is_net};
 
 use crate::feeds::Feeder;
 use crate::items::item_at;
@@ -11,57 +11,31 @@ use crate::source_table::SourceTable;
 use sdc_base::NoMemory;
 use std::alloc::Global;
 
-/// Searches along sources, one after the other: of each net the turn in which it was reached last, and the nets that are
-/// left to be looked at in the search of this turn.
+/// A search along sources: which nets were reached, and those of them that are left to be looked at.
 #[derive(Drop)]
-pub(crate) struct Search {
-    reached: Vec<u64>,
-    turn: u64,
+struct Search {
+    reached: Vec<bool>,
     left: Vec<usize>,
 }
 
 impl Search {
-    /// Searches among so many nets, of which none was made yet.
-    pub(crate) fn new(alloc: Global, nets: usize) -> Result<Search, NoMemory>
-        ensures search { IfOk result (IsSearch nets) }
-        ensures turn { IfOk result (λ search. search.turn ≡ 0) }
-        ensures left { IfOk result (λ search. search.left.items ≡ []) }
+    /// A search among so many nets, of which none was reached yet.
+    fn new(alloc: Global, nets: usize) -> Result<Search, NoMemory>
+        ensures { IfOk result (IsBegun nets) }
     {
         Ok(Search {
-            reached: vec![in alloc; 0; nets]?,
-            turn: 0,
+            reached: vec![in alloc; false; nets]?,
             left: Vec::new(alloc),
         })
     }
 
-    /// Begins a search, in which nothing was reached yet.
-    fn begin(&mut self, alloc: Global) -> Result<(), NoMemory>
-        requires { IsSearch (length self.old.reached.items) self.old }
-        ensures search { OnOk result (IsSearch (length self.old.reached.items) self.new) }
-        ensures begun { OnOk result (IsBegun self.new) }
-    {
-        match self.turn.checked_add(1) {
-            Some(turn) => {
-                self.turn = turn;
-                self.left.clear();
-            }
-            None => {
-                *self = Search::new(alloc, self.reached.len())?;
-                self.turn = 1;
-            }
-        }
-        Ok(())
-    }
-
     /// Reaches a net, which is left to be looked at where it was not reached before.
     fn reach(&mut self, net: usize) -> Result<(), NoMemory>
-        requires search { IsSearch (length self.old.reached.items) self.old }
-        requires net { net < length self.old.reached.items }
-        ensures search { OnOk result (IsSearch (length self.old.reached.items) self.new) }
-        ensures reaches { OnOk result (ReachesMore (λ other. net == other) self.old self.new) }
+        requires { net < length self.old.reached.items }
+        ensures { OnOk result (ReachesMore (λ other. net == other) self.old self.new) }
     {
-        if self.reached[net] != self.turn {
-            self.reached[net] = self.turn;
+        if !self.reached[net] {
+            self.reached[net] = true;
             self.left.push(net)?;
         }
         Ok(())
@@ -69,10 +43,8 @@ impl Search {
 
     /// Reaches a net where it is a source.
     fn reach_source(&mut self, source: Feeder) -> Result<(), NoMemory>
-        requires search { IsSearch (length self.old.reached.items) self.old }
-        requires within { IsNetWithin (length self.old.reached.items) source }
-        ensures search { OnOk result (IsSearch (length self.old.reached.items) self.new) }
-        ensures reaches { OnOk result (ReachesMore (λ net. is_net net source) self.old self.new) }
+        requires { IsNetWithin (length self.old.reached.items) source }
+        ensures { OnOk result (ReachesMore (λ net. is_net net source) self.old self.new) }
     {
         match source {
             Feeder::Net(net) => self.reach(net as usize),
@@ -89,8 +61,7 @@ impl Search {
     ) -> Result<bool, NoMemory>
         requires table { IsLinked table.now }
         requires net { net < length table.now.last }
-        requires search { IsSearch (length table.now.last) self.old }
-        ensures search { OnOk result (IsSearch (length table.now.last) self.new) }
+        requires count { length self.old.reached.items ≡ length table.now.last }
         ensures wanted { IfOk result (λ found. found ≡ has_net (fed table.now.rows.now net) wanted) }
         ensures reaches { OnOk result (ReachesMore (has_net (fed table.now.rows.now net)) self.old self.new) }
     {
@@ -125,19 +96,12 @@ fn is_net(source: Feeder, net: usize) -> bool
 }
 
 /// Whether following sources from a net comes back to it.
-pub(crate) fn returns(
-    alloc: Global,
-    search: &mut Search,
-    table: &SourceTable<'_>,
-    net: usize,
-) -> Result<bool, NoMemory>
+pub(crate) fn returns(alloc: Global, table: &SourceTable<'_>, net: usize) -> Result<bool, NoMemory>
     requires table { IsLinked table.now }
     requires net { net < length table.now.last }
-    requires search { IsSearch (length table.now.last) search.old }
-    ensures search { OnOk result (IsSearch (length table.now.last) search.new) }
-    ensures returns { IfOk result (TellsReturn table.now.rows.now net) }
+    ensures { IfOk result (TellsReturn table.now.rows.now net) }
 {
-    search.begin(alloc)?;
+    let mut search = Search::new(alloc, table.last.len())?;
     search.left.push(net)?;
     while let Some(from) = search.left.pop() {
         if search.reach_sources(table, from, net)? {

@@ -8,8 +8,8 @@ use Rattle.flat_design.proofs.net_ends.sound_ends.Goals as goal
 pub check_nets-requires-clause-rows : goal.check_nets-requires-clause-rows
 check_nets-requires-clause-rows c = sources_known c.args.design.now c.args.table.now.rows.now c.requires.is c.requires.table.rows
 
-pub check_nets-requires-clause-no_cycle : goal.check_nets-requires-clause-no_cycle
-check_nets-requires-clause-no_cycle c = λ known net low. c.requires.ends.none net
+pub check_nets-requires-clause-returning : goal.check_nets-requires-clause-returning
+check_nets-requires-clause-returning c = λ net low unmarked. c.requires.ends.none net
 
 pub returns-in-Ok : goal.returns-in-Ok
 returns-in-Ok c =

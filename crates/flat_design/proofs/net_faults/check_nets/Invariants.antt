@@ -1,13 +1,8 @@
--- No net so far has a fault, and the search can go on.
-use Rattle.std.proofs.Common.{length}
+-- No net so far has a fault.
 use Rattle.sdc_model.specs.FlatFaults.{NetHas}
 use Rattle.sdc_model.specs.FlatNets.{FlatNet}
 use Rattle.flat_design.specs.NamedFaults.{HaveNoneBefore, flat_of}
-use Rattle.flat_design.specs.Searches.{IsSearch}
 use Rattle.flat_design.proofs.net_faults.check_nets.Given as goal
 
 abbrev pub invariant-loop-net : goal.invariant-loop-net
-invariant-loop-net l = record {
-  none : HaveNoneBefore FlatNet (NetHas (flat_of l.design)) (flat_of l.design).nets l.net;
-  search : IsSearch (length l.table.last) l.search;
-}
+invariant-loop-net l = HaveNoneBefore FlatNet (NetHas (flat_of l.design)) (flat_of l.design).nets l.net

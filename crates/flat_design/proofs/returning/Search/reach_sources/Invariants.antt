@@ -1,14 +1,9 @@
 -- The sources that were passed are reached, and those before them are still to be.
-use Rattle.std.proofs.Common.{length}
-use Rattle.flat_design.specs.Searches.{IsSearch}
 use Rattle.flat_design.proofs.SearchFacts.{Reaching}
 use Rattle.flat_design.proofs.returning.Search.reach_sources.Given as goal
 
 abbrev pub invariant-loop-last : goal.invariant-loop-last
-invariant-loop-last l = record {
-  search : IsSearch (length l.table.last) l.self;
-  reaching : Reaching l.table.rows.now l.net l.wanted l.last l.found l.initial.self l.self;
-}
+invariant-loop-last l = Reaching l.table.rows.now l.net l.wanted l.last l.found l.initial.self l.self
 
 abbrev pub decreases-loop-last : goal.decreases-loop-last
 decreases-loop-last l = l.last
