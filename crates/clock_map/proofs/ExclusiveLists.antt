@@ -1,8 +1,8 @@
 -- The exclusive pairs, from the tests on what is kept of each mode.
 use Rattle.std.proofs.Common.{◌≡◌, ℕ, ◌<◌, ◌≤◌, Bool, true, false, not, List, [], ◌∷◌, get_or, Option, Some, None, refl, sym, ap, ◌∙◌, subst, inl, inr, arith, min, max}
-use Rattle.std.specs.Prelude.{◌⊎◌, ◌↔◌, ◌||◌, nat_le, if◌then◌else◌}
+use Rattle.std.specs.Prelude.{◌↔◌, nat_le, if◌then◌else◌}
 use Rattle.std.specs.List.{Contains, list_any}
-use Rattle.std.proofs.lemmas.Bool.{false≢true, not-true, or_left, or_right}
+use Rattle.std.proofs.lemmas.Bool.{false≢true, not-true, or_cases, or_left, or_right}
 use Rattle.std.proofs.lemmas.Bool.Decides.{nat_tests}
 use Rattle.timing_types.specs.declared.clocks.Pair.{Pair}
 use Rattle.timing_types.specs.declared.views.View.{View}
@@ -71,10 +71,6 @@ mode_lets count view numbers timing a b known a_within b_within = (says, shows) 
       ∙ by_test lets.first lets.second (list_any (same_pair (min lets.first lets.second, max lets.first lets.second)) timing.exclusive.keys) refl lets.not_exclusive
 
 -- ---- all modes
-
-or_cases : (a b : Bool) → (a || b) ≡ true → (a ≡ true) ⊎ (b ≡ true)
-or_cases true b e = inl refl
-or_cases false b e = inr e
 
 pub some_says : (count : ℕ) (views : List View) (maps : List (List ℕ)) (timings : List Timing) (a b : ℕ) → AreTimings count views maps timings → a < count → b < count
     → list_any (lets_time a b) timings ≡ true → SomeLetsBeTimed views maps a b

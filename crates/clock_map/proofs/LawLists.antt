@@ -8,7 +8,7 @@ use Rattle.std.specs.Cmp.Lexicographic.{slice_cmp}
 use Rattle.std.specs.Option.{option_map, unwrap_or}
 use Rattle.std.specs.Ordering.{ordering_reverse}
 use Rattle.std.specs.List.{count_by}
-use Rattle.std.proofs.lemmas.Bool.{and_parts, false≢true}
+use Rattle.std.proofs.lemmas.Bool.{and_parts, and_right, false≢true}
 use Rattle.std.proofs.lemmas.Cmp.{tied_itself, nat_list_cmp_total, nat_cmp_total, on_total, then_total}
 use Rattle.std.proofs.lemmas.Map.Lookups.{exact_unsigned}
 use Rattle.timing_types.specs.declared.clocks.Clock.{Clock}
@@ -34,17 +34,18 @@ lt_is Less e = refl
 lt_is Equal e = absurd (false≢true e)
 lt_is Greater e = absurd (false≢true e)
 
+one_grows : (a b : Bool) → (a ≡ true → b ≡ true) → cond a 1 0 ≤ cond b 1 0
+one_grows true true h = omega arith
+one_grows true false h = absurd (false≢true (h refl))
+one_grows false true h = omega arith
+one_grows false false h = omega arith
+
 count_grows : {X : Type 0} (p q : X → Bool) (xs : List X) → ((x : X) → p x ≡ true → q x ≡ true) → count_by p xs ≤ count_by q xs
 count_grows p q [] more = omega arith
 count_grows p q (x ∷ xs) more =
     let rest = count_grows p q xs more in
-    let here = one (p x) (q x) (more x) in
-    omega (arith, count_more p x xs, count_more q x xs) where
-      one : (a b : Bool) → (a ≡ true → b ≡ true) → cond a 1 0 ≤ cond b 1 0
-      one true true h = omega arith
-      one true false h = absurd (false≢true (h refl))
-      one false true h = omega arith
-      one false false h = omega arith
+    let here = one_grows (p x) (q x) (more x) in
+    omega (arith, count_more p x xs, count_more q x xs)
 
 -- one element more passes the second test
 count_exceeds : {X : Type 0} (p q : X → Bool) (xs : List X) (i : ℕ) (x : X) → ((y : X) → p y ≡ true → q y ≡ true)
@@ -58,13 +59,8 @@ count_exceeds p q (y ∷ xs) zero x more at fails passes =
     omega (arith, count_more p y xs, count_more q y xs)
 count_exceeds p q (y ∷ xs) (suc i) x more at fails passes =
     let rest = count_exceeds p q xs i x more at fails passes in
-    let here = one (p y) (q y) (more y) in
-    omega (arith, count_more p y xs, count_more q y xs) where
-      one : (a b : Bool) → (a ≡ true → b ≡ true) → cond a 1 0 ≤ cond b 1 0
-      one true true h = omega arith
-      one true false h = absurd (false≢true (h refl))
-      one false true h = omega arith
-      one false false h = omega arith
+    let here = one_grows (p y) (q y) (more y) in
+    omega (arith, count_more p y xs, count_more q y xs)
 
 -- a clock has a lesser rank than one of its definition behind it
 pub rank_below : (all : List Standing) (i : ℕ) (x y : Standing) → slice_get all i ≡ Some x → x.definition ≡ y.definition → ahead_cmp x y ≡ Less
@@ -77,12 +73,8 @@ rank_below all i x y at same less =
           let ahead : ahead_cmp z y ≡ Less = ahead_total.trans z x y (lt_is (ahead_cmp z x) parts.1) less in
           ap (λ b. b && is_ahead z y) (ap (λ d. same_definition z.definition d) (sym same) ∙ parts.0) ∙ ap is_lt ahead
 
-      and_false : (a b : Bool) → b ≡ false → (a && b) ≡ false
-      and_false true b e = e
-      and_false false b e = refl
-
       fails : (same_definition x.definition x.definition && is_ahead x x) ≡ false
-      fails = and_false (same_definition x.definition x.definition) (is_ahead x x) (ap is_lt (tied_itself ahead_total x))
+      fails = and_right (same_definition x.definition x.definition) (is_ahead x x) (ap is_lt (tied_itself ahead_total x))
 
       passes : (same_definition x.definition y.definition && is_ahead x y) ≡ true
       passes = ap (λ b. b && is_ahead x y) (ap (λ d. same_definition x.definition d) (sym same) ∙ ap is_eq (tied_itself definition_total x.definition)) ∙ ap is_lt less

@@ -9,7 +9,7 @@ use Rattle.std.specs.BTreeMap.{BTreeMap, get, Updates, IsUnchanged, btree_map_le
 use Rattle.std.specs.BTreeMap.{is_at}
 use Rattle.std.specs.Map.{lookup}
 use Rattle.std.proofs.lemmas.Cmp.{tied_itself}
-use Rattle.std.proofs.lemmas.Option.{slice_get_within}
+use Rattle.std.proofs.lemmas.Option.{same_Some, slice_get_within}
 use Rattle.std.proofs.lemmas.List.{length_push, take_more, take_all, length-take-le}
 use Rattle.timing_types.specs.declared.identities.Identity.{Identity}
 use Rattle.timing_types.specs.contracts.identities.IdentityOrd.TheImpl.Laws as identity_laws
@@ -87,9 +87,6 @@ pub record Knows (known : BTreeMap Identity ℕ) (identities : List Identity) (n
   pub below : (x : Identity) (n : ℕ) → get identity_cmp known x ≡ Some n → n < btree_map_len known
   pub rises : RisesTo 0 numbers (btree_map_len known)
 
-some_same : {X : Type 0} (x y : X) → Some x ≡ Some y → x ≡ y
-some_same x y e = cc
-
 -- the new key, or another one
 key_cases : (x y : Identity) (P : Type 0) → (identity_cmp x y ≡ Equal → x ≡ y → P) → (is_eq (identity_cmp x y) ≡ false → P) → P
 key_cases x y P same other = by_order (identity_cmp x y) refl where
@@ -140,15 +137,15 @@ known_new known known' identities numbers identity number absent number_is updat
           (λ o' same'. sym same ∙ same')
           (λ apart'. let old = knows.below y n (sym (other y apart') ∙ f) in
           let is : Some number ≡ Some n = sym here ∙ ap (get identity_cmp known') same ∙ e in
-          let is' = some_same number n is in absurd (omega arith)))
+          let is' = same_Some number n is in absurd (omega arith)))
           (λ apart. key_cases identity y (x ≡ y)
           (λ o' same'. let old = knows.below x n (sym (other x apart) ∙ e) in
           let is : Some number ≡ Some n = sym here ∙ ap (get identity_cmp known') same' ∙ f in
-          let is' = some_same number n is in absurd (omega arith))
+          let is' = same_Some number n is in absurd (omega arith))
           (λ apart'. knows.apart x y n (sym (other x apart) ∙ e) (sym (other y apart') ∙ f)));
       below = λ x n e.
           key_cases identity x (n < btree_map_len known')
-          (λ o same. let is = some_same number n (sym here ∙ ap (get identity_cmp known') same ∙ e) in omega arith)
+          (λ o same. let is = same_Some number n (sym here ∙ ap (get identity_cmp known') same ∙ e) in omega arith)
           (λ apart. let old = knows.below x n (sym (other x apart) ∙ e) in omega arith);
       rises = rw longer (rises_new 0 numbers (btree_map_len known) number knows.rises number_is);
     }
@@ -165,9 +162,9 @@ knows_all known identities numbers knows = record {
       let y = element_at identities q (omega arith) in
       let known_x : get identity_cmp known x.0 ≡ Some n.0 = knows.has p x.0 n.0 x.1 n.1 in
       let known_y : get identity_cmp known y.0 ≡ Some m.0 = knows.has q y.0 m.0 y.1 m.1 in (
-        λ e. let same : n.0 ≡ m.0 = some_same n.0 m.0 (sym n.1 ∙ e ∙ m.1) in
+        λ e. let same : n.0 ≡ m.0 = same_Some n.0 m.0 (sym n.1 ∙ e ∙ m.1) in
             x.1 ∙ ap Some (knows.apart x.0 y.0 m.0 (known_x ∙ ap Some same) known_y) ∙ sym y.1,
-        λ e. let same : x.0 ≡ y.0 = some_same x.0 y.0 (sym x.1 ∙ e ∙ y.1) in
+        λ e. let same : x.0 ≡ y.0 = same_Some x.0 y.0 (sym x.1 ∙ e ∙ y.1) in
             n.1 ∙ sym known_x ∙ ap (get identity_cmp known) same ∙ known_y ∙ sym m.1,
       );
   last = btree_map_len known;

@@ -1,10 +1,10 @@
 -- Modes without generated clocks have one clock map.
-use Rattle.std.proofs.Common.{◌≡◌, ℕ, zero, suc, ◌+◌, ◌-◌, ◌<◌, ◌≤◌, List, [], ◌∷◌, ◌++◌, length, take, drop, map, Some, None, refl, sym, ap, ◌∙◌, subst, inl, inr, add-one, arith}
+use Rattle.std.proofs.Common.{◌≡◌, ℕ, zero, suc, ◌-◌, ◌<◌, ◌≤◌, List, [], ◌∷◌, ◌++◌, length, take, drop, map, Some, None, refl, sym, ap, ◌∙◌, subst, inl, inr, add-one, arith}
 use Rattle.std.specs.Prelude.{slice_get}
 use Rattle.std.specs.List.{AllZip, Contains, concat}
 use Rattle.std.proofs.lemmas.Bool.{cases_lt}
 use Rattle.std.proofs.lemmas.List.{length-append, take_more, take_all}
-use Rattle.std.proofs.lemmas.Option.{slice_get_within, get_or_from_slice_get}
+use Rattle.std.proofs.lemmas.Option.{same_Some, slice_get_within, get_or_from_slice_get}
 use Rattle.std.proofs.Math.Seq.{take-append_seam, drop-append_seam}
 use Rattle.timing_types.specs.declared.clocks.Clock.{Clock}
 use Rattle.timing_types.specs.declared.clocks.Wave.{Wave}
@@ -107,9 +107,6 @@ name_once own earlier first name name' (inr free) (inr free') = free_once own ea
 
 -- ---- merged clocks
 
-some_same : {X : Type 0} (x y : X) → Some x ≡ Some y → x ≡ y
-some_same x y e = cc
-
 merged_once : (standings : List Standing) (numbers : List ℕ) (earlier : List (List ℕ)) (k : ℕ) (clock clock' : Clock) (wave wave' : Wave)
     → IsMerged standings numbers earlier k clock wave → IsMerged standings numbers earlier k clock' wave' → (clock ≡ clock') × (wave ≡ wave')
 merged_once standings numbers earlier k clock clock' wave wave' one other =
@@ -120,7 +117,7 @@ merged_once standings numbers earlier k clock clock' wave wave' one other =
         | inr equal ↦ omega arith
       ]
     ] in
-    let first : one.first ≡ other.first = some_same one.first other.first (sym one.stands ∙ ap (slice_get standings) at ∙ other.stands) in
+    let first : one.first ≡ other.first = same_Some one.first other.first (sym one.stands ∙ ap (slice_get standings) at ∙ other.stands) in
     let named : IsMergedName (names_of standings) earlier one.first.name clock'.name =
     subst (λ (s : Standing). IsMergedName (names_of standings) earlier s.name clock'.name) (sym first) other.name in
     let name : clock.name ≡ clock'.name = name_once (names_of standings) earlier one.first.name clock.name clock'.name one.name named in (

@@ -1,7 +1,8 @@
 -- Numbers in the order of their first appearance: which of them are equal decides them all.
-use Rattle.std.proofs.Common.{◌≡◌, ◌≢◌, ℕ, zero, suc, ◌<◌, ◌≤◌, List, length, Option, Some, None, sym, ap, ◌∙◌, inl, inr, arith}
+use Rattle.std.proofs.Common.{◌≡◌, ℕ, zero, suc, ◌<◌, ◌≤◌, List, length, Option, Some, None, sym, ap, ◌∙◌, inl, inr, arith}
 use Rattle.std.specs.Prelude.{◌⊎◌, ◌↔◌, slice_get}
 use Rattle.std.proofs.lemmas.Bool.{cases_eq, cases_lt}
+use Rattle.std.proofs.lemmas.Option.{same_Some}
 use Rattle.sdc_model.specs.ClockIdentity.{IsFirstAt}
 use Rattle.clock_map.proofs.NumberLists.{element_at}
 use Rattle.clock_map.proofs.SharedClocks.{same_lists}
@@ -27,12 +28,9 @@ StandsBefore numbers n p = (q : ℕ) × (q < p) × (slice_get numbers q ≡ Some
 abbrev IsNewAt : List ℕ → ℕ → ℕ → Type 0
 IsNewAt numbers n p = (q : ℕ) → q < p → slice_get numbers q ≡ Some n → ⊥
 
-some_same : (x y : ℕ) → Some x ≡ Some y → x ≡ y
-some_same x y e = cc
-
 is_there : (o : Option ℕ) (n : ℕ) → (o ≡ Some n) ⊎ (o ≡ Some n → ⊥)
 is_there None n = inr (λ e. cc)
-is_there (Some m) n = elim (cases_eq m n) [ inl same ↦ inl (ap Some same) | inr other ↦ inr (λ e. other (some_same m n e)) ]
+is_there (Some m) n = elim (cases_eq m n) [ inl same ↦ inl (ap Some same) | inr other ↦ inr (λ e. other (same_Some m n e)) ]
 
 before_or_new : (numbers : List ℕ) (n p : ℕ) → StandsBefore numbers n p ⊎ IsNewAt numbers n p
 before_or_new numbers n zero = inr (λ q within e. absurd (omega arith))

@@ -2,7 +2,7 @@
 use Rattle.std.proofs.Common.{◌≡◌, ℕ, zero, suc, ◌+◌, ◌-◌, ◌<◌, ◌≤◌, Bool, true, false, List, [], ◌∷◌, ◌++◌, length, Some, refl, sym, ap, ◌∙◌, subst, inl, inr, arith}
 use Rattle.std.specs.Prelude.{◌⊎◌, slice_get}
 use Rattle.std.specs.List.{Contains, list_any}
-use Rattle.std.proofs.lemmas.Bool.{false≢true, cases_lt}
+use Rattle.std.proofs.lemmas.Bool.{false≢true, cases_lt, false_from_ne_true}
 use Rattle.std.proofs.lemmas.List.Elements.{Contains-append_left, Contains-append_right, Contains-append_cases, Contains-push, Contains-push_cases}
 use Rattle.std.proofs.lemmas.Option.{slice_get_within, get_or_from_slice_get}
 use Rattle.timing_types.specs.declared.clocks.Pair.{Pair}
@@ -174,10 +174,6 @@ rows_in_order timings count a (suc n) short =
 
 -- ---- all pairs
 
-decided : (b : Bool) → (b ≡ true → ⊥) → b ≡ false
-decided true h = absurd (h refl)
-decided false h = refl
-
 pub rows_are_pairs : (views : List View) (maps : List (List ℕ)) (timings : List Timing) (count : ℕ) → AreTimings count views maps timings
     → AreExclusivePairs views maps count (rows_from timings count 0 count)
 rows_are_pairs views maps timings count known = record {
@@ -187,7 +183,7 @@ rows_are_pairs views maps timings count known = record {
         let within = found.within in
         (rises, within, λ lets. false≢true (sym found.untimed ∙ some_shows count views maps timings a b known (omega arith) within lets))),
     (λ h. rows_have timings count 0 count a b (omega arith) (omega (arith, h.0, h.1)) h.0 h.1
-        (decided (list_any (lets_time a b) timings) (λ e. h.2 (some_says count views maps timings a b known (omega (arith, h.0, h.1)) h.1 e)))),
+        (false_from_ne_true (list_any (lets_time a b) timings) (λ e. h.2 (some_says count views maps timings a b known (omega (arith, h.0, h.1)) h.1 e)))),
   );
   order = rows_in_order timings count 0 count (omega arith);
 }

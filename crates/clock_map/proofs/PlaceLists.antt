@@ -3,7 +3,7 @@ use Rattle.std.proofs.Common.{◌≡◌, ◌≢◌, ℕ, ◌+◌, ◌<◌, ◌�
 use Rattle.std.specs.Prelude.{◌↔◌, slice_get}
 use Rattle.std.proofs.lemmas.Bool.{cases_eq, cases_lt}
 use Rattle.std.proofs.lemmas.List.{length-set}
-use Rattle.std.proofs.lemmas.Option.{slice_get_within}
+use Rattle.std.proofs.lemmas.Option.{same_Some, slice_get_within}
 use Rattle.sdc_model.specs.Exclusive.{IsApart}
 use Rattle.clock_map.specs.Timings.{ArePlaces}
 
@@ -21,7 +21,7 @@ place_set count numbers i number places places' apart within here known places_i
         let long = so_far.long in
         let within' : number < length places = omega arith in
         let written : get_or places' k None ≡ Some i = ap (λ ps. get_or ps k None) places_is ∙ ap (λ n. get_or (set places number (Some i)) n None) same ∙ get_or-set_same places number (Some i) None within' in (
-          λ e. let is : i ≡ place = some_same i place (sym written ∙ e) in
+          λ e. let is : i ≡ place = same_Some i place (sym written ∙ e) in
               (omega arith, ap (slice_get numbers) (sym is) ∙ here ∙ ap Some (sym same)),
           λ h. let is : i ≡ place = apart i place number here (h.1 ∙ ap Some same) in written ∙ ap Some is,
         )
@@ -32,15 +32,12 @@ place_set count numbers i number places places' apart within here known places_i
         )
   ];
 } where
-  some_same : (x y : ℕ) → Some x ≡ Some y → x ≡ y
-  some_same x y e = cc
-
   before : (k place : ℕ) → k ≢ number → (place < i + 1) × (slice_get numbers place ≡ Some k) → place < i
   before k place other h = elim (cases_lt place i) [
     | inl less ↦ less
     | inr more ↦
         let is : i ≡ place = omega (arith, h.0) in
-        absurd (other (some_same k number (sym h.1 ∙ ap (slice_get numbers) (sym is) ∙ here)))
+        absurd (other (same_Some k number (sym h.1 ∙ ap (slice_get numbers) (sym is) ∙ here)))
   ]
 
 pub place_kept : (count : ℕ) (numbers : List ℕ) (i number : ℕ) (places : List (Option ℕ)) → slice_get numbers i ≡ Some number → count ≤ number

@@ -2,7 +2,7 @@
 use Rattle.std.proofs.Common.{◌≡◌, ◌<◌, ℕ, zero, suc, List, [], ◌∷◌, Some, refl, sym, ap, ◌∙◌, subst, inl, inr, arith}
 use Rattle.std.specs.Prelude.{◌⊎◌, slice_get}
 use Rattle.std.specs.List.{Contains}
-use Rattle.std.proofs.lemmas.Option.{slice_get_within, slice_get-get_or, get_or_from_slice_get}
+use Rattle.std.proofs.lemmas.Option.{same_Some, slice_get_within, slice_get-get_or, get_or_from_slice_get}
 use Rattle.timing_types.specs.declared.clocks.Pair.{Pair}
 use Rattle.timing_types.specs.declared.views.View.{View}
 use Rattle.sdc_model.specs.Exclusive.{AreExclusivePairs, ComesBefore}
@@ -84,9 +84,7 @@ among_place p (q ∷ ps) (inr among) = let there = among_place p ps among in (su
 
 place_among : (p : Pair) (ps : List Pair) (i : ℕ) → slice_get ps i ≡ Some p → Among p ps
 place_among p [] i e = cc
-place_among p (q ∷ ps) zero e = inl (some_same p q (sym e)) where
-  some_same : (x y : Pair) → Some x ≡ Some y → x ≡ y
-  some_same x y e = cc
+place_among p (q ∷ ps) zero e = inl (same_Some p q (sym e))
 place_among p (q ∷ ps) (suc i) e = inr (place_among p ps i e)
 
 contains_from_among : (p : Pair) (ps : List Pair) → Among p ps → Contains ps p
