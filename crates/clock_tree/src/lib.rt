@@ -11,4 +11,3 @@ mod tests;
 
 pub use edge_laws::{relation_is_unique, relation_of_edges_at_one_time, relation_of_equal_edges};
 pub use edge_relation::relation;
-pub use sdc_model::Relation;

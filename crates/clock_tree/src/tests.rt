@@ -1,5 +1,6 @@
 //! Relations whose values come from outside: a script compared the edges of both clocks pair by pair.
 use super::*;
+use sdc_model::Relation;
 
 const LAST_TIME: i64 = 2_000_000_000_000;
 
