@@ -1,16 +1,16 @@
 -- Printed files are text, and have just the commands of their lines: each word is one of the grammar.
-use Rattle.std.proofs.Common.{◌≡◌, ◌<◌, ◌&&◌, ℕ, Bool, true, List, [], ◌∷◌, ◌++◌, length, refl, ◌∙◌, ap, codes, arith, lit<}
+use Rattle.std.proofs.Common.{◌≡◌, ◌<◌, ℕ, Bool, true, List, [], ◌∷◌, ◌++◌, length, refl, codes, arith, lit<}
 use Rattle.std.proofs.lemmas.Bool.{and_parts}
 use Rattle.std.proofs.lemmas.Bool.Decides.{nat_tests}
-use Rattle.std.proofs.lemmas.List.Folds.{list_all-append}
 use Rattle.std.proofs.lemmas.Str.{IsAscii-append, IsUtf8-from_ascii}
 use Rattle.std.proofs.lemmas.Str.Ascii.{IsAscii-cons, IsAscii-nil}
 use Rattle.std.specs.List.{list_all}
 use Rattle.std.specs.Str.{IsAscii, IsUtf8}
+use Rattle.sdc_base.proofs.ReadBackFacts.{list_all-append}
 use Rattle.sdc_model.specs.Commands.{IsWord}
 use Rattle.sdc_model.specs.PrintedCommands.{AreSpelled, AreSpelledLines, word_of}
 use Rattle.sdc_model.specs.PrintedLine.{PrintedWord, bare, braced, list_word, query_word, spelled, spaced, words_text, line_text, lines_text}
-use Rattle.sdc_print.proofs.PlainWords.{bare_is_word, braced_is_word, is_braced, is_plain}
+use Rattle.sdc_print.proofs.PlainWords.{all_pass, bare_is_word, braced_is_word, is_braced, is_plain}
 use Rattle.sdc_print.proofs.QueryWords.{query_is_word}
 
 plain_ascii : (b : ℕ) → is_plain b ≡ true → b < 128
@@ -18,16 +18,6 @@ plain_ascii b p = grind (arith, nat_tests)
 
 braced_ascii : (b : ℕ) → is_braced b ≡ true → b < 128
 braced_ascii b p = grind (arith, nat_tests)
-
--- a weaker test
-pub all_pass : (p q : ℕ → Bool) → ((b : ℕ) → p b ≡ true → q b ≡ true) → (bs : List ℕ) → list_all p bs ≡ true → list_all q bs ≡ true
-all_pass p q weaker [] h = refl
-all_pass p q weaker (b ∷ bs) h =
-    let parts = and_parts (p b) (list_all p bs) h in
-    rw (weaker b parts.0, all_pass p q weaker bs parts.1) refl
-
-pub all_append : (p : ℕ → Bool) (xs ys : List ℕ) → list_all p xs ≡ true → list_all p ys ≡ true → list_all p (xs ++ ys) ≡ true
-all_append p xs ys h k = list_all-append p xs ys ∙ (ap (λ b. b && list_all p ys) h ∙ k)
 
 ascii_all : (p : ℕ → Bool) → ((b : ℕ) → p b ≡ true → b < 128) → (bs : List ℕ) → list_all p bs ≡ true → IsAscii bs
 ascii_all p small [] h = IsAscii-nil
@@ -121,7 +111,7 @@ pub items_braced : (texts : List (List ℕ)) → AreItems texts → list_all is_
 items_braced [] items = refl
 items_braced (text ∷ []) items = item_braced text items.0
 items_braced (text ∷ next ∷ texts) items =
-    all_append is_braced text (32 ∷ spaced (next ∷ texts)) (item_braced text items.0) (items_braced (next ∷ texts) items.1)
+    list_all-append is_braced text (32 ∷ spaced (next ∷ texts)) (item_braced text items.0) (items_braced (next ∷ texts) items.1)
 
 -- lines of words, one behind the other
 pub spelled_append : (first second : List (List PrintedWord)) → AreFineLines first → AreFineLines second → AreFineLines (first ++ second)

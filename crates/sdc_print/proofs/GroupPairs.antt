@@ -1,5 +1,6 @@
 -- The pairs that the groups of a mode's lines make exclusive are the mode's pairs, in order.
 use Rattle.std.proofs.Common.{◌≡◌, ◌<◌, ◌≤◌, ◌+◌, ◌&&◌, ◌||◌, ◌⊎◌, ℕ, zero, suc, Bool, true, false, List, [], ◌∷◌, ◌++◌, length, map, drop, nat_eq, refl, sym, ◌∙◌, ap, subst, inl, inr, arith}
+use Rattle.std.proofs.Math.Bool.{and-false, or-false}
 use Rattle.std.proofs.lemmas.Bool.{cases_eq, eq-eqb, ne_eqb}
 use Rattle.timing_types.specs.declared.clocks.Clock.{Clock}
 use Rattle.timing_types.specs.declared.clocks.Pair.{Pair}
@@ -60,30 +61,22 @@ none_below i low count (place ∷ places) h w =
 
 -- ---- which clocks the groups part
 
-and_false : (b : Bool) → (b && false) ≡ false
-and_false true = refl
-and_false false = refl
-
-or_false : (b : Bool) → (b || false) ≡ b
-or_false true = refl
-or_false false = refl
-
 -- one line's groups part its clock from the others
 parted_line : (place count i j : ℕ) (others : List ℕ) (rest : List Groups) → i < j → AreWithin place count others
     → is_parted (groups_of place others ++ rest) i j ≡ ((nat_eq place i && is_among j others) || is_parted rest i j)
-parted_line place count i j [] rest h w = ap (λ (b : Bool). b || is_parted rest i j) (sym (and_false (nat_eq place i)))
+parted_line place count i j [] rest h w = ap (λ (b : Bool). b || is_parted rest i j) (sym (and-false (nat_eq place i)))
 parted_line place count i j (other ∷ others) rest h w =
     let a = is_among j (other ∷ others) in
     let other_way : ((nat_eq place j || false) && is_among i (other ∷ others)) ≡ false =
     elim (cases_eq place j) [
       | inl e ↦
           let none : is_among i (other ∷ others) ≡ false = none_below i place count (other ∷ others) (omega (arith, e, h)) w in
-          ap (λ (b : Bool). (nat_eq place j || false) && b) none ∙ and_false (nat_eq place j || false)
+          ap (λ (b : Bool). (nat_eq place j || false) && b) none ∙ and-false (nat_eq place j || false)
       | inr n ↦ ap (λ (b : Bool). (b || false) && is_among i (other ∷ others)) (ne_eqb place j n)
     ] in
     ap (λ (b : Bool). (((nat_eq place i || false) && a) || b) || is_parted rest i j) other_way
-    ∙ (ap (λ (b : Bool). ((b && a) || false) || is_parted rest i j) (or_false (nat_eq place i))
-    ∙ ap (λ (b : Bool). b || is_parted rest i j) (or_false (nat_eq place i && a)))
+    ∙ (ap (λ (b : Bool). ((b && a) || false) || is_parted rest i j) (or-false (nat_eq place i))
+    ∙ ap (λ (b : Bool). b || is_parted rest i j) (or-false (nat_eq place i && a)))
 
 none_before : (pairs : List Pair) (count place i j : ℕ) (clocks : List Clock) → i < j → i < place → ArePairs count pairs → is_parted (groups_from pairs place clocks) i j ≡ false
 none_before pairs count place i j [] h k o = refl
@@ -102,7 +95,7 @@ parted_is pairs count place i j (clock ∷ clocks) h k l o =
       | inl e ↦
           ap (λ (b : Bool). (b && is_among j (exclusive_to place pairs)) || is_parted rest i j) (eq-eqb place i e)
           ∙ (ap (λ (b : Bool). is_among j (exclusive_to place pairs) || b) (none_before pairs count (suc place) i j clocks h (omega (arith, e)) o)
-          ∙ (or_false (is_among j (exclusive_to place pairs)) ∙ ap (λ (n : ℕ). is_among j (exclusive_to n pairs)) e))
+          ∙ (or-false (is_among j (exclusive_to place pairs)) ∙ ap (λ (n : ℕ). is_among j (exclusive_to n pairs)) e))
       | inr n ↦
           ap (λ (b : Bool). (b && is_among j (exclusive_to place pairs)) || is_parted rest i j) (ne_eqb place i n)
           ∙ parted_is pairs count (suc place) i j clocks h (omega (arith, n)) (omega arith) o

@@ -1,7 +1,8 @@
 -- The places of the clocks of printed names: each name is found at its clock, and places in order stay as they are.
-use Rattle.std.proofs.Common.{◌≡◌, ◌<◌, ◌≤◌, ◌+◌, ℕ, zero, suc, true, false, cond, List, [], ◌∷◌, ◌++◌, length, length-append, map, nat_eq, nat_lt, Ordering, Greater, Option, Some, refl, sym, ◌∙◌, ap, subst, arith, append_assoc, append-nil, slice_get}
+use Rattle.std.proofs.Common.{◌≡◌, ◌<◌, ◌≤◌, ◌+◌, ℕ, zero, suc, true, false, cond, List, [], ◌∷◌, ◌++◌, length, length-append, map, nat_lt, Ordering, Greater, Option, Some, refl, sym, ◌∙◌, ap, subst, arith, append_assoc, append-nil, slice_get}
 use Rattle.std.proofs.lemmas.Bool.{or_parts}
 use Rattle.std.proofs.lemmas.Bool.Decides.{nat_tests}
+use Rattle.std.proofs.lemmas.Slice.Eq.{bytes_eq-Decides}
 use Rattle.std.specs.BTreeSet.{insert_key}
 use Rattle.std.specs.Cmp.{nat_cmp_is}
 use Rattle.std.specs.Ordering.{match_ordering, nat_cmp}
@@ -20,16 +21,10 @@ use Rattle.sdc_print.proofs.PrintedFacts.{name_item}
 
 -- ---- names of clocks
 
-text_same : (text : List ℕ) → same_text text text ≡ true
-text_same [] = refl
-text_same (b ∷ bs) =
-    let h : nat_eq b b ≡ true = grind (arith, nat_tests) in
-    rw (h, text_same bs) refl
-
 found_first : (k : ℕ) (before after : List Clock) (clock : Clock) → is_taken clock.name before ≡ false → place_from k (before ++ clock ∷ after) clock.name ≡ Some (k + length before)
 found_first k [] after clock h =
     let e : k ≡ k + 0 = omega arith in
-    rw (text_same clock.name) (ap Some e)
+    rw ((bytes_eq-Decides clock.name clock.name).1 refl) (ap Some e)
 found_first k (first ∷ before) after clock h =
     let parts = or_parts (same_text first.name clock.name) (is_taken clock.name before) h in
     let e : k + 1 + length before ≡ k + suc (length before) = omega arith in

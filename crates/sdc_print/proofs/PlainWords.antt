@@ -1,7 +1,7 @@
 -- Words of the grammar that are printed: bare ones of plain bytes, and lists of them in braces.
 use Rattle.std.proofs.Common.{◌≡◌, ◌<◌, ◌-◌, ◌==◌, ◌++◌, ◌||◌, ◌&&◌, inl, inr, ℕ, Bool, true, false, List, [], ◌∷◌, Some, Ok, take, length, refl, sym, ap, subst, ◌∙◌, arith, append_assoc}
 use Rattle.std.specs.List.{list_all}
-use Rattle.std.proofs.lemmas.Bool.{cases_Bool, both_ways, and_parts}
+use Rattle.std.proofs.lemmas.Bool.{cases_Bool, both_ways, and_parts, or_parts}
 use Rattle.std.proofs.lemmas.Bool.Decides.{nat_tests}
 use Rattle.std.proofs.lemmas.List.{length-append, take_at, append-nil}
 use Rattle.source_types.specs.declared.commands.Part.TheVariants as part
@@ -25,6 +25,13 @@ plain_itself b p = grind (arith, nat_tests)
 
 braced_itself : (b : ℕ) → is_braced b ≡ true → grammar.is_itself grammar.braced b ≡ true
 braced_itself b p = grind (arith, nat_tests)
+
+-- a weaker test
+pub all_pass : (p q : ℕ → Bool) → ((b : ℕ) → p b ≡ true → q b ≡ true) → (bs : List ℕ) → list_all p bs ≡ true → list_all q bs ≡ true
+all_pass p q weaker [] h = refl
+all_pass p q weaker (b ∷ bs) h =
+    let parts = and_parts (p b) (list_all p bs) h in
+    rw (weaker b parts.0, all_pass p q weaker bs parts.1) refl
 
 -- ---- what follows a word
 
@@ -82,12 +89,6 @@ run_behind test (x ∷ xs) rest h =
     let parts = and_parts (test x) (list_all test xs) h in
     rw parts.0 (run_behind test xs rest parts.1)
 
-weaker_all : (p q : ℕ → Bool) → ((b : ℕ) → p b ≡ true → q b ≡ true) → (bs : List ℕ) → list_all p bs ≡ true → list_all q bs ≡ true
-weaker_all p q weaker [] h = refl
-weaker_all p q weaker (b ∷ bs) h =
-    let parts = and_parts (p b) (list_all p bs) h in
-    rw (weaker b parts.0, weaker_all p q weaker bs parts.1) refl
-
 -- ---- a bare word
 
 pub record Plain (b : ℕ) : Type 0 where
@@ -112,23 +113,15 @@ plain_first : (b : ℕ) (bs : List ℕ) → Plain b → from_command parting (b 
 unfolding from_command
 plain_first b bs p = rw (p.parts, p.comment, p.backslash) refl
 
-or_first : (p q : Bool) → (p || q) ≡ false → p ≡ false
-or_first false q h = refl
-or_first true q h = h
-
-or_second : (p q : Bool) → (p || q) ≡ false → q ≡ false
-or_second false q h = h
-or_second true q h = absurd (both_ways true h refl)
-
 newline_ends : (b : ℕ) → is_end b ≡ false → (b == 10) ≡ false
-newline_ends b p = or_first (b == 10) (b == 59) p
+newline_ends b p = (or_parts (b == 10) (b == 59) p).0
 
 plain_gap : (b : ℕ) (bs : List ℕ) → Plain b → behind_gap false (b ∷ bs) ≡ b ∷ bs
 unfolding behind_gap
-plain_gap b bs p = rw (or_first (is_space b) (is_end b) p.parts, newline_ends b (or_second (is_space b) (is_end b) p.parts), p.backslash) refl
+plain_gap b bs p = let parts = or_parts (is_space b) (is_end b) p.parts in rw (parts.0, newline_ends b parts.1, p.backslash) refl
 
 plain_opening : (b : ℕ) (bs : List ℕ) → Plain b → opening (b ∷ bs) ≡ bare_opens
-plain_opening b bs p = rw (or_second (is_space b) (is_end b) p.parts, p.brace, p.quote) refl
+plain_opening b bs p = let parts = or_parts (is_space b) (is_end b) p.parts in rw (parts.1, p.brace, p.quote) refl
 
 plain_piece : (b : ℕ) (bs : List ℕ) → Plain b → grammar.piece_at grammar.bare (b ∷ bs) ≡ grammar.with_run grammar.bare (b ∷ []) bs
 unfolding grammar.piece_at
@@ -140,7 +133,7 @@ text_word text = record { parts = part.Text text ∷ [] }
 -- a run of plain bytes ends where a word may
 pub bare_run : (b : ℕ) (bs rest : List ℕ) → list_all is_plain bs ≡ true → may_follow rest ≡ true → grammar.with_run grammar.bare (b ∷ []) (bs ++ rest) ≡ found (grammar.text (b ∷ bs)) rest
 bare_run b bs rest all follows =
-    let self = weaker_all is_plain (grammar.is_itself grammar.bare) plain_itself bs all in
+    let self = all_pass is_plain (grammar.is_itself grammar.bare) plain_itself bs all in
     ap (λ (t : List ℕ). found (grammar.text (b ∷ t)) (behind (grammar.is_itself grammar.bare) (bs ++ rest)))
     (run_front (grammar.is_itself grammar.bare) bs rest self ∙ (ap (λ (t : List ℕ). bs ++ t) (follow_other rest follows) ∙ append-nil bs))
     ∙ ap (λ (t : List ℕ). found (grammar.text (b ∷ bs)) t) (run_behind (grammar.is_itself grammar.bare) bs rest self ∙ follow_behind rest follows)
@@ -228,7 +221,7 @@ first b bs p = rw p.backslash refl
 -- a run of bytes that stand in braces here ends where the text does
 inner_run : (b : ℕ) (bs : List ℕ) → list_all is_braced bs ≡ true → grammar.with_run grammar.braced (b ∷ []) bs ≡ found (grammar.text (b ∷ bs)) []
 inner_run b bs h =
-    let self = weaker_all is_braced (grammar.is_itself grammar.braced) braced_itself bs h in
+    let self = all_pass is_braced (grammar.is_itself grammar.braced) braced_itself bs h in
     ap (λ (t : List ℕ). found (grammar.text (b ∷ t)) (behind (grammar.is_itself grammar.braced) bs)) (whole_front bs self)
     ∙ ap (λ (t : List ℕ). found (grammar.text (b ∷ bs)) t) (whole_behind bs self)
 

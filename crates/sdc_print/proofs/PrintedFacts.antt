@@ -11,8 +11,8 @@ use Rattle.sdc_model.specs.ClockFile.{is_name}
 use Rattle.sdc_model.specs.PrintedFile.{ArePrintableClocks, clock_line, clock_lines, header_lines, lines_of_form, unit_text}
 use Rattle.sdc_model.specs.PrintedLine.{bare, braced, is_bare_text, name_word, spaced}
 use Rattle.sdc_print.proofs.ClockLines.{line_of_form}
-use Rattle.sdc_print.proofs.FileText.{AreFineLines, IsFine, IsItem, all_pass, bare_spelled, braced_spelled, item_braced, items_braced, spelled_append}
-use Rattle.sdc_print.proofs.PlainWords.{is_plain}
+use Rattle.sdc_print.proofs.FileText.{AreFineLines, IsFine, IsItem, bare_spelled, braced_spelled, item_braced, items_braced, spelled_append}
+use Rattle.sdc_print.proofs.PlainWords.{all_pass, is_plain}
 use Rattle.sdc_print.proofs.WaveText.{WaveText, ns, wave_text}
 
 pub header_spelled : AreFineLines (header_lines (pos 1000000))

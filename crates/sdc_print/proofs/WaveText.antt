@@ -15,9 +15,9 @@ use Rattle.sdc_model.specs.ClockFile.{wave_given}
 use Rattle.sdc_model.specs.PrintedFile.{IsPrintableWave}
 use Rattle.sdc_model.specs.PrintedLine.{spaced}
 use Rattle.sdc_model.specs.Waveform.{nanoseconds, time_from, time_in, limited_time, wave_of, wave_within, waveform_of}
-use Rattle.sdc_print.proofs.FileText.{AreItems, IsItem, all_pass}
+use Rattle.sdc_print.proofs.FileText.{AreItems, IsItem}
 use Rattle.sdc_print.proofs.ListBack.{list_spaced}
-use Rattle.sdc_print.proofs.PlainWords.{is_plain}
+use Rattle.sdc_print.proofs.PlainWords.{all_pass, is_plain}
 
 -- ---- times and waveforms
 
