@@ -1,5 +1,5 @@
 -- What is connected and assigned in a module without faults are bits of its nets.
-use Rattle.std.proofs.lemmas.Bool.{eqb-true}
+use Rattle.std.proofs.lemmas.Bool.{eqb-true, or_parts}
 use Rattle.sdc_laws.proofs.EachItem.{both_nothing, unless}
 use Rattle.sdc_laws.proofs.FaultlessModules.{Faultless}
 use Rattle.sdc_laws.proofs.LeftSides.{AllAssignNets, AllNet, AssignsNets, LeftNets}
@@ -16,7 +16,7 @@ use Rattle.sdc_model.specs.WellFormedNetlist.{IsAssignOf, IsBitOf, IsDriven, lin
 use Rattle.source_types.specs.declared.netlists.Bit.{Bit}
 use Rattle.source_types.specs.declared.netlists.Instance.{Instance}
 use Rattle.source_types.specs.declared.netlists.Link.{Link}
-use Rattle.std.proofs.Common.{◌++◌, ◌||◌, ◌∷◌, ◌≡◌, [], Bool, false, inl, inr, length, List, map, refl, true}
+use Rattle.std.proofs.Common.{◌++◌, ◌∷◌, ◌≡◌, [], Bool, false, inl, inr, length, List, map, refl, true}
 use Rattle.std.proofs.lemmas.List.Elements.{All-append, All-cons, All-nil}
 use Rattle.std.specs.List.{All, flat_map, list_any}
 use Rattle.std.specs.Prelude.{◌&&◌, ◌==◌, not}
@@ -111,17 +111,10 @@ side_fine m known s nets even fine =
       bits_fine m known s.right (λ p at. fine p (in_right p s.left s.right at)),
     )
 
-any_none : (test : Sides → Bool) (s : Sides) (ss : List Sides) → list_any test (s ∷ ss) ≡ false → (test s ≡ false) × (list_any test ss ≡ false)
-any_none test s ss h = none (test s) (list_any test ss) h where
-  none : (a b : Bool) → (a || b) ≡ false → (a ≡ false) × (b ≡ false)
-  none false false h = (refl, refl)
-  none false true h = cc
-  none true b h = cc
-
 sides_fine : (m : Written) → Declares (declarations m) (nets_of m) → (ss : List Sides) → LeftNets ss → list_any (is_uneven (declarations m)) ss ≡ false → Fine m (flat_map (λ (s : Sides). s.left ++ s.right) ss) → All (IsAssignOf (nets_of m)) (map (assign_from (declarations m)) ss)
 sides_fine m known [] nets even fine = All-nil (IsAssignOf (nets_of m))
 sides_fine m known (s ∷ ss) nets even fine =
-    let parts = any_none (is_uneven (declarations m)) s ss even in
+    let parts = or_parts (is_uneven (declarations m) s) (list_any (is_uneven (declarations m)) ss) even in
     All-cons (IsAssignOf (nets_of m)) (assign_from (declarations m) s) (map (assign_from (declarations m)) ss)
     (side_fine m known s nets.0 parts.0 (λ p at. fine p (in_left p (s.left ++ s.right) (flat_map (λ (t : Sides). t.left ++ t.right) ss) at)))
     (sides_fine m known ss nets.1 parts.1 (λ p at. fine p (in_right p (s.left ++ s.right) (flat_map (λ (t : Sides). t.left ++ t.right) ss) at)))

@@ -38,6 +38,7 @@ mod OneLibrary
 mod OneLimit
 mod OneNetlist
 mod OneWinner
+mod Outcomes
 mod PathLimits
 mod ReadIsSpelled
 mod ReadNetlists

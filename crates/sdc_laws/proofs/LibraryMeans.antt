@@ -1,11 +1,11 @@
 -- Bytes have a meaning as a library: their tokens stand in a row, since each leaves less text behind it, and the machine
 -- finds where they break.
-use Rattle.std.proofs.Common.{◌≡◌, ◌+◌, ◌<◌, ◌≤◌, ℕ, zero, suc, Bool, true, false, List, [], ◌∷◌, ◌++◌, Result, Err, length, drop, take, refl, sym, ap, subst, ◌∙◌, inl, inr, arith}
+use Rattle.std.proofs.Common.{◌≡◌, ◌+◌, ◌<◌, ◌≤◌, ℕ, zero, suc, Bool, true, List, [], ◌∷◌, ◌++◌, Result, Err, length, drop, take, refl, sym, ap, subst, inl, inr, arith}
 use Rattle.std.specs.Prelude.{◌==◌, ◌||◌, not, nat_lt, if◌then◌else◌}
 use Rattle.std.specs.List.{prefix_len}
-use Rattle.std.specs.Str.{IsUtf8, is_utf8}
+use Rattle.std.specs.Str.{is_utf8}
 use Rattle.std.proofs.lemmas.List.{length-drop}
-use Rattle.std.proofs.lemmas.Str.{IsUtf8-from_is_utf8, is_utf8-from_IsUtf8}
+use Rattle.std.proofs.lemmas.Str.{IsUtf8-from_is_utf8}
 use Rattle.token_grammar.proofs.Breaking.{breaks}
 use Rattle.token_grammar.specs.Machine.{break_of}
 use Rattle.sdc_base.proofs.CaseFacts.{by_bool}
@@ -21,6 +21,7 @@ use Rattle.sdc_model.specs.LibertyText.{ReadsLibrary, read}
 use Rattle.sdc_model.specs.LibertyTokens.{AreTokens, Character, Ending, IsLexed, Token, at_end, bare, bare_len, brackets_behind, bytes_of, characters, front_behind, gap_len, in_quotes, is_bare_byte, is_in_comment, is_unfinished, last_token, plain, quoted, quoted_front, sign, token_front, token_of, within_at_end}
 use Rattle.sdc_model.specs.Row.{Front, found, stops}
 use Rattle.sdc_model.proofs.RowFacts.{not_both, same_place}
+use Rattle.sdc_laws.proofs.NetlistMeans.{no_text}
 
 -- ---- a token leaves less text behind it
 
@@ -106,12 +107,6 @@ formed_some text =
         gives = refl;
       },
     )
-
-true_is_false : true ≡ false → ⊥
-true_is_false is = cc
-
-no_text : (bytes : List ℕ) → is_utf8 bytes ≡ false → IsUtf8 bytes → ⊥
-no_text bytes fails text = true_is_false (sym (is_utf8-from_IsUtf8 bytes text) ∙ fails)
 
 pub library_some : (bytes : List ℕ) → (outcome : Result Library (At LibKind)) × ReadsLibrary bytes outcome
 library_some bytes =

@@ -12,9 +12,11 @@ use Rattle.source_types.specs.declared.netlists.Bit.TheVariants as bits
 use Rattle.source_types.specs.declared.netlists.Bit.{Bit}
 use Rattle.source_types.specs.declared.netlists.Range.{Range}
 use Rattle.source_types.specs.declared.netlists.Wire.{Wire}
-use Rattle.std.proofs.Common.{◌+◌, ◌-◌, ◌∙◌, ◌∷◌, ◌≡◌, ◌≤◌, [], ap, arith, Bool, false, inl, inr, List, map, nat_le, None, Option, refl, Some, subst, suc, sym, true, zero, ℕ}
+use Rattle.std.proofs.Common.{◌+◌, ◌-◌, ◌∙◌, ◌∷◌, ◌≡◌, ◌≤◌, [], arith, Bool, false, inl, inr, List, map, nat_le, None, Option, refl, Some, subst, suc, sym, true, zero, ℕ}
 use Rattle.std.proofs.lemmas.Bool.Decides.{nat_tests}
 use Rattle.std.proofs.lemmas.List.Elements.{All-cons, All-nil, All-weaker}
+use Rattle.std.proofs.lemmas.Option.{same_Some}
+use Rattle.std.proofs.lemmas.Simd.{map-map}
 use Rattle.std.specs.List.{All}
 use Rattle.std.specs.Prelude.{◌&&◌, if◌then◌else◌}
 
@@ -84,16 +86,12 @@ ends_between range =
     (λ up. let less : range.left ≤ range.right = grind (arith, nat_tests) in (inl (omega arith, less), inl (less, omega arith)))
     (λ down. let more : range.right ≤ range.left = grind (arith, nat_tests) in (inr (more, omega arith), inr (omega arith, more)))
 
-map_again : (name : List ℕ) (is : List ℕ) → map (net_bit name) (map (λ i. Some i) is) ≡ map (λ i. net_bit name (Some i)) is
-map_again name [] = refl
-map_again name (i ∷ is) = ap (λ bs. net_bit name (Some i) ∷ bs) (map_again name is)
-
 whole_bits : (all : List Declared) (nets : List Wire) (name : List ℕ) (range : Option Range) → range_named all name ≡ range → HasNet all nets name → All (IsDriven nets) (map (net_bit name) (indices range))
 whole_bits all nets name None of net =
     All-cons (IsDriven nets) (net_bit name None) [] (net_bit_of all nets name None net (subst (λ (r : Option Range). Selects None r) (sym of) tt)) (All-nil (IsDriven nets))
 whole_bits all nets name (Some range) of net =
     let ends = ends_between range in
-    subst (λ bs. All (IsDriven nets) bs) (sym (map_again name (from_to range.left range.right)))
+    subst (λ bs. All (IsDriven nets) bs) (sym (map-map (net_bit name) (λ i. Some i) (from_to range.left range.right)))
     (index_bits all nets name range (from_to range.left range.right) net of (all_between range range.left range.right ends.0 ends.1))
 
 -- an index that is there is in the range of a name that has one
@@ -130,11 +128,9 @@ driven_bits all nets (part name left right) declares known has is =
     let both = and_parts (has_index (range_named all name.text) left) (has_index (range_named all name.text) right) (unless (has_index (range_named all name.text) left && has_index (range_named all name.text) right) name known) in
     let first = indexed (range_named all name.text) left both.0 in
     let second = indexed (range_named all name.text) right both.1 in
-    let same : first.0 ≡ second.0 = one_range first.0 second.0 (sym first.1 ∙ second.1) in
+    let same : first.0 ≡ second.0 = same_Some first.0 second.0 (sym first.1 ∙ second.1) in
     index_bits all nets name.text first.0 (from_to left right) (declares name.text first.0 first.1) first.1
-    (all_between first.0 left right first.2 (subst (λ (r : Range). IsBetween r right) (sym same) second.2)) where
-      one_range : (r s : Range) → ◌≡◌ {A = Option Range} (Some r) (Some s) → r ≡ s
-      one_range r s h = cc
+    (all_between first.0 left right first.2 (subst (λ (r : Range). IsBetween r right) (sym same) second.2))
 driven_bits all nets (constant values) declares known has is = cc
 
 driven_is_bit : (nets : List Wire) (b : Bit) → IsDriven nets b → IsBitOf nets b

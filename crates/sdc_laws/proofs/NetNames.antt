@@ -1,5 +1,5 @@
 -- Names of a netlist without faults are each the name of one thing: of one module, and in a module of one net.
-use Rattle.std.proofs.lemmas.Bool.{both_ways, or_cases, or_from, or_parts}
+use Rattle.std.proofs.lemmas.Bool.{both_ways, or_cases, or_from, or_left, or_parts, or_right}
 use Rattle.sdc_laws.proofs.SameTexts.{text_same}
 use Rattle.sdc_base.proofs.CaseFacts.{by_bool}
 use Rattle.sdc_laws.proofs.EachItem.{both_nothing, unless}
@@ -145,17 +145,9 @@ known_more : (names : List (List ℕ)) (before : List Declared) (d : Declared) �
 known_more names before d known name h =
     rw (list_any-append (is_of name) before (d ∷ []))
     (elim (or_cases (same_text d.name.text name) (is_among names name) h) [
-      | inl same ↦ right (list_any (is_of name) before) (same_text d.name.text name) same
-      | inr among ↦ left (list_any (is_of name) before) (same_text d.name.text name || false) (known name among)
-    ]) where
-      right : (a b : Bool) → b ≡ true → (a || (b || false)) ≡ true
-      right true true h = refl
-      right false true h = refl
-      right a false h = cc
-
-      left : (a b : Bool) → a ≡ true → (a || b) ≡ true
-      left true b h = refl
-      left false b h = cc
+      | inl same ↦ or_right (list_any (is_of name) before) (same_text d.name.text name || false) (or_left (same_text d.name.text name) false same)
+      | inr among ↦ or_left (list_any (is_of name) before) (same_text d.name.text name || false) (known name among)
+    ])
 
 pub header_fresh : (names : List (List ℕ)) (before header more : List Declared) → Known names before → ArePorts before → ArePorts header → seconds before (header ++ more) ≡ [] → Fresh names (map (λ (d : Declared). d.name.text) header)
 header_fresh names before [] more known ports own h = tt

@@ -1,9 +1,10 @@
 -- Bytes have a meaning as a netlist: their tokens stand in a row, since each leaves less text behind it, and the machine
 -- finds where they break.
-use Rattle.std.proofs.Common.{◌≡◌, ◌+◌, ◌<◌, ◌≤◌, ◌∙◌, ℕ, zero, suc, Bool, true, false, List, [], ◌∷◌, Option, None, Some, Result, drop, length, refl, sym, subst, inl, inr, arith}
+use Rattle.std.proofs.Common.{◌≡◌, ◌+◌, ◌<◌, ◌≤◌, ℕ, zero, suc, Bool, true, false, List, [], ◌∷◌, Option, None, Some, Result, drop, length, refl, sym, subst, inl, inr, arith}
 use Rattle.std.specs.Prelude.{◌==◌, ◌||◌, not, if◌then◌else◌}
 use Rattle.std.specs.List.{prefix_len}
 use Rattle.std.specs.Str.{IsUtf8, is_utf8}
+use Rattle.std.proofs.lemmas.Bool.{both_ways, or_left}
 use Rattle.std.proofs.lemmas.List.{length-drop}
 use Rattle.std.proofs.lemmas.Str.{IsUtf8-from_is_utf8, is_utf8-from_IsUtf8}
 use Rattle.token_grammar.proofs.Breaking.{breaks}
@@ -45,10 +46,6 @@ word_first false true underscore dollar is = refl
 word_first false false true dollar is = refl
 word_first false false false dollar is = cc
 
-number_first : (digit underscore : Bool) → digit ≡ true → (digit || underscore) ≡ true
-number_first true underscore is = refl
-number_first false underscore is = cc
-
 abbrev Leaves : List ℕ → Lexed → Type 0
 Leaves bs token = length token.behind ≤ length bs
 
@@ -69,7 +66,7 @@ plain_leaves b bs =
     either (Leaves bs) (begins_word b) (word_token (b ∷ bs)) (if is_digit b then number_token (b ∷ bs) else (if b == 92 then escaped_token bs else (if b == 39 then base_token bs else plain (mark_kind b) [] bs)))
     (λ is. less_left is_word_byte b bs (word_first (is_letter b) (is_digit b) (b == 95) (b == 36) is))
     (λ no_word. either (Leaves bs) (is_digit b) (number_token (b ∷ bs)) (if b == 92 then escaped_token bs else (if b == 39 then base_token bs else plain (mark_kind b) [] bs))
-    (λ is. less_left is_number_byte b bs (number_first (is_digit b) (b == 95) is))
+    (λ is. less_left is_number_byte b bs (or_left (is_digit b) (b == 95) is))
     (λ no_number. either (Leaves bs) (b == 92) (escaped_token bs) (if b == 39 then base_token bs else plain (mark_kind b) [] bs)
     (λ is. left (prefix_len (λ c. not (is_blank c)) bs) bs)
     (λ no_escape. either (Leaves bs) (b == 39) (base_token bs) (plain (mark_kind b) [] bs)
@@ -192,11 +189,8 @@ text_read bytes text = record {
   is = refl;
 }
 
-true_is_false : true ≡ false → ⊥
-true_is_false is = cc
-
 pub no_text : (bytes : List ℕ) → is_utf8 bytes ≡ false → IsUtf8 bytes → ⊥
-no_text bytes fails text = true_is_false (sym (is_utf8-from_IsUtf8 bytes text) ∙ fails)
+no_text bytes fails text = both_ways (is_utf8 bytes) fails (is_utf8-from_IsUtf8 bytes text)
 
 pub netlist_some : (bytes : List ℕ) → (outcome : Result (List Module) (At VerilogKind)) × ReadsVerilog bytes outcome
 netlist_some bytes =

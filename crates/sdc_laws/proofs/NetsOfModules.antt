@@ -1,5 +1,6 @@
 -- Each name of a module without faults has a net of the range that its declarations give.
 use Rattle.std.proofs.lemmas.Bool.{and_parts, or_cases}
+use Rattle.std.proofs.lemmas.Option.{none-some}
 use Rattle.sdc_laws.proofs.SameTexts.{same_is}
 use Rattle.sdc_base.proofs.CaseFacts.{by_bool}
 use Rattle.sdc_laws.proofs.FaultlessModules.{Faultless, port_declared}
@@ -161,9 +162,7 @@ pub declares_nets : (m : Written) → IsFromText m → Faultless m → Declares 
 declares_nets m f ok name range is =
     by_option (λ o. declaration_of (declarations m) name ≡ o → (elim o [ None ↦ None | Some d ↦ d.range ]) ≡ Some range → HasNet (declarations m) (nets_of m) name) (declaration_of (declarations m) name)
     (λ d _ e _. named_net m f ok name d e)
-    (λ _ e none. absurd (none_some range none)) refl is where
-      none_some : (r : Range) → ◌≡◌ {A = Option Range} None (Some r) → ⊥
-      none_some r h = cc
+    (λ _ e none. absurd (none-some range none)) refl is
 
 used_in : (all : List Declared) (ps : List Piece) (name : Token) → In (whole name) ps → declaration_of all name.text ≡ None → In (record { name = name.text; range = None; tie = None }) (filter_map (used_wire all) ps)
 used_in all [] name at none = absurd at

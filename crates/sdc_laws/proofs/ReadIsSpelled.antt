@@ -2,6 +2,7 @@
 -- far is made of texts that complete to expressions of the grammar with any operand that follows.
 use Rattle.std.proofs.Common.{◌≡◌, ℕ, List, [], ◌∷◌, ◌++◌, Option, Some, None, refl, sym, ap, subst, ◌∙◌, inl, inr}
 use Rattle.std.specs.Prelude.{option_and_then, option_map}
+use Rattle.std.proofs.lemmas.Option.{none-some, same_Some}
 use Rattle.std.proofs.lemmas.List.{append_assoc, append-nil}
 use Rattle.source_types.specs.declared.function_texts.Operand.{Operand}
 use Rattle.source_types.specs.declared.function_texts.Operand.TheVariants as operand
@@ -15,19 +16,13 @@ use Rattle.sdc_model.specs.FunctionText.{Reading, apart, begins, behind, behind_
 use Rattle.sdc_model.specs.FunctionGrammar.{AreLetters, IsAnd, IsWord, Spells, a_chain, a_negation, a_product, a_sum, an_operand, before_blank, behind_blank, both, denied, either, enclosed, one_chain, one_negation, one_operand, one_product, primed, some, word}
 use Rattle.sdc_laws.proofs.SpelledIsRead.{negated_more}
 
-none_is_some : {A : Type 0} → (x : A) → ◌≡◌ {A = Option A} None (Some x) → ⊥
-none_is_some x h = cc
-
-some_same : {A : Type 0} → (x y : A) → ◌≡◌ {A = Option A} (Some x) (Some y) → x ≡ y
-some_same x y h = cc
-
 -- where a step of an optional value gives one, the value is there
 mapped : {A B : Type 0} → (f : A → B) (o : Option A) (y : B) → option_map f o ≡ Some y → (x : A) × (o ≡ Some x) × (f x ≡ y)
-mapped f None y is = absurd (none_is_some y is)
-mapped f (Some x) y is = (x, refl, some_same (f x) y is)
+mapped f None y is = absurd (none-some y is)
+mapped f (Some x) y is = (x, refl, same_Some (f x) y is)
 
 bound : {A B : Type 0} → (f : A → Option B) (o : Option A) (y : B) → option_and_then f o ≡ Some y → (x : A) × (o ≡ Some x) × (f x ≡ Some y)
-bound f None y is = absurd (none_is_some y is)
+bound f None y is = absurd (none-some y is)
 bound f (Some x) y is = (x, refl, is)
 
 -- the text before an operand in its parentheses, in four parts: up to an or, then up to an and, then up to a `^`, and the
@@ -80,10 +75,10 @@ ShowsReading names text r = Shows names text r.operand r.pending r.outer
 -- ---- what an operand completes
 
 operand_spelled : (names : List (List ℕ)) (o : Operand) (shown : Shown names o) (v : Expr) → operand_in names o ≡ Some v → Spells names an_operand (shown_text names o shown) v
-operand_spelled names operand.Due shown v is = absurd (none_is_some v is)
-operand_spelled names (operand.Word bytes) shown v is = subst (λ e. Spells names an_operand bytes e) (some_same (word_meaning names bytes) v is) (word bytes shown)
-operand_spelled names (operand.Stands e) shown v is = subst (λ d. Spells names an_operand shown.0 d) (some_same e v is) shown.1
-operand_spelled names (operand.Apart e) shown v is = subst (λ d. Spells names an_operand (shown.0 ++ shown.1 ∷ []) d) (some_same e v is) (before_blank an_operand (shown.0 ++ shown.1 ∷ []) shown.0 shown.1 e shown.2 shown.3 refl)
+operand_spelled names operand.Due shown v is = absurd (none-some v is)
+operand_spelled names (operand.Word bytes) shown v is = subst (λ e. Spells names an_operand bytes e) (same_Some (word_meaning names bytes) v is) (word bytes shown)
+operand_spelled names (operand.Stands e) shown v is = subst (λ d. Spells names an_operand shown.0 d) (same_Some e v is) shown.1
+operand_spelled names (operand.Apart e) shown v is = subst (λ d. Spells names an_operand (shown.0 ++ shown.1 ∷ []) d) (same_Some e v is) (before_blank an_operand (shown.0 ++ shown.1 ∷ []) shown.0 shown.1 e shown.2 shown.3 refl)
 
 negation_of : (names : List (List ℕ)) (p : Pending) (before : Before names p) (text : List ℕ) (v : Expr) → Spells names an_operand text v → Spells names a_negation (before.denials ++ text) (negated p.negations v)
 negation_of names p before text v h = before.negation text v (one_operand text v h)
@@ -250,14 +245,14 @@ or_shows names text o p outer b v h stands is = record {
 
 -- where an operand may begin, one is due there, behind an and where blanks stand
 begins_shows : (names : List (List ℕ)) (text : List ℕ) (o : Operand) (p : Pending) (outer : List Pending) (s : Reading) → Shows names text o p outer → begins o p outer ≡ Some s → (q : Pending) × (s ≡ record { operand = operand.Due; pending = q; outer = outer }) × Shows names text operand.Due q outer
-begins_shows names text operand.Due p outer s h is = (p, sym (some_same (record { operand = operand.Due; pending = p; outer = outer }) s is), h)
-begins_shows names text (operand.Word w) p outer s h is = absurd (none_is_some s is)
-begins_shows names text (operand.Stands e) p outer s h is = absurd (none_is_some s is)
+begins_shows names text operand.Due p outer s h is = (p, sym (same_Some (record { operand = operand.Due; pending = p; outer = outer }) s is), h)
+begins_shows names text (operand.Word w) p outer s h is = absurd (none-some s is)
+begins_shows names text (operand.Stands e) p outer s h is = absurd (none-some s is)
 begins_shows names text (operand.Apart e) p outer s h is =
     let plain : Shows names (around_text names outer h.around ++ (before_text h.before ++ h.shown.0)) (operand.Stands e) p outer = record { around = h.around; before = h.before; shown = (h.shown.0, h.shown.2); whole = refl } in
     let k = and_shows names (around_text names outer h.around ++ (before_text h.before ++ h.shown.0)) (operand.Stands e) p outer h.shown.1 e plain refl (inr h.shown.3) in (
       behind_and p e,
-      sym (some_same (record { operand = operand.Due; pending = behind_and p e; outer = outer }) s is),
+      sym (same_Some (record { operand = operand.Due; pending = behind_and p e; outer = outer }) s is),
       subst (λ t. Shows names t operand.Due (behind_and p e) outer) (regroup_operand (around_text names outer h.around) (before_text h.before) h.shown.0 h.shown.1 ∙ sym h.whole) k,
     )
 
@@ -281,9 +276,9 @@ letter_begins names text o p outer b s h is by =
 letter_shows : (names : List (List ℕ)) (text : List ℕ) (o : Operand) (p : Pending) (outer : List Pending) (b : ℕ) (s : Reading) → Shows names text o p outer → sign_of b ≡ sign.Letter → with_letter b o p outer ≡ Some s → ShowsReading names (text ++ b ∷ []) s
 letter_shows names text operand.Due p outer b s h is by = letter_begins names text operand.Due p outer b s h is by
 letter_shows names text (operand.Apart e) p outer b s h is by = letter_begins names text (operand.Apart e) p outer b s h is by
-letter_shows names text (operand.Stands e) p outer b s h is by = absurd (none_is_some s by)
+letter_shows names text (operand.Stands e) p outer b s h is by = absurd (none-some s by)
 letter_shows names text (operand.Word w) p outer b s h is by =
-    subst (λ r. ShowsReading names (text ++ b ∷ []) r) (some_same (record { operand = operand.Word (w ++ b ∷ []); pending = p; outer = outer }) s by)
+    subst (λ r. ShowsReading names (text ++ b ∷ []) r) (same_Some (record { operand = operand.Word (w ++ b ∷ []); pending = p; outer = outer }) s by)
     (goes_on names text (operand.Word w) p outer b h (operand.Word (w ++ b ∷ [])) (word_more w b h.shown is) refl)
 
 due_blank : (names : List (List ℕ)) (text : List ℕ) (p : Pending) (outer : List Pending) (b : ℕ) → Shows names text operand.Due p outer → sign_of b ≡ sign.Blank → Shows names (text ++ b ∷ []) operand.Due p outer
@@ -326,7 +321,7 @@ prime_shows names text o p outer b v h stands is =
     (shown_text names o h.shown ++ b ∷ [], primed (shown_text names o h.shown ++ b ∷ []) (shown_text names o h.shown) b v (operand_spelled names o h.shown v stands) is refl) refl
 
 close_shows : (names : List (List ℕ)) (text : List ℕ) (o : Operand) (p : Pending) (outer : List Pending) (b : ℕ) (v : Expr) (s : Reading) → Shows names text o p outer → operand_in names o ≡ Some v → sign_of b ≡ sign.Close → closed p outer v ≡ Some s → ShowsReading names (text ++ b ∷ []) s
-close_shows names text o p [] b v s h stands is by = absurd (none_is_some s by)
+close_shows names text o p [] b v s h stands is by = absurd (none-some s by)
 close_shows names text o p (q ∷ outer) b v s h stands is by =
     let inner = h.before.sums ++ (h.before.products ++ (h.before.chains ++ (h.before.denials ++ shown_text names o h.shown))) in
     let shows : Shows names (text ++ b ∷ []) (operand.Stands (sum_with p v)) q outer = record {
@@ -335,12 +330,12 @@ close_shows names text o p (q ∷ outer) b v s h stands is by =
       shown = (h.around.2.0 ∷ inner ++ b ∷ [], enclosed (h.around.2.0 ∷ inner ++ b ∷ []) inner h.around.2.0 b (sum_with p v) h.around.2.1 (sum_of names p h.before (shown_text names o h.shown) v (operand_spelled names o h.shown v stands)) is refl);
       whole = ap (λ t. t ++ b ∷ []) h.whole ∙ regroup_close (around_text names outer h.around.0) (before_text h.around.1) h.before.sums h.before.products h.before.chains h.before.denials (shown_text names o h.shown) h.around.2.0 b;
     } in
-    subst (λ r. ShowsReading names (text ++ b ∷ []) r) (some_same (record { operand = operand.Stands (sum_with p v); pending = q; outer = outer }) s by) shows
+    subst (λ r. ShowsReading names (text ++ b ∷ []) r) (same_Some (record { operand = operand.Stands (sum_with p v); pending = q; outer = outer }) s by) shows
 
 step_shows : (names : List (List ℕ)) (text : List ℕ) (o : Operand) (p : Pending) (outer : List Pending) (kind : Sign) (b : ℕ) (s : Reading) → Shows names text o p outer → sign_of b ≡ kind → step names (record { operand = o; pending = p; outer = outer }) kind b ≡ Some s → ShowsReading names (text ++ b ∷ []) s
 step_shows names text o p outer sign.Letter b s h is by = letter_shows names text o p outer b s h is by
 step_shows names text o p outer sign.Blank b s h is by =
-    subst (λ r. ShowsReading names (text ++ b ∷ []) r) (some_same (record { operand = apart (operand_in names o); pending = p; outer = outer }) s by) (blank_shows names text o p outer b h is)
+    subst (λ r. ShowsReading names (text ++ b ∷ []) r) (same_Some (record { operand = apart (operand_in names o); pending = p; outer = outer }) s by) (blank_shows names text o p outer b h is)
 step_shows names text o p outer sign.Open b s h is by =
     let m = mapped opened (begins o p outer) s by in
     let k = begins_shows names text o p outer m.0 h m.1 in
@@ -368,7 +363,7 @@ step_shows names text o p outer sign.Or b s h is by =
 -- ---- a text, and a whole text
 
 steps_show : (names : List (List ℕ)) (bytes text : List ℕ) (r s : Reading) → ShowsReading names text r → steps names bytes r ≡ Some s → ShowsReading names (text ++ bytes) s
-steps_show names [] text r s h by = subst (λ t. ShowsReading names t s) (sym (append-nil text)) (subst (λ x. ShowsReading names text x) (some_same r s by) h)
+steps_show names [] text r s h by = subst (λ t. ShowsReading names t s) (sym (append-nil text)) (subst (λ x. ShowsReading names text x) (same_Some r s by) h)
 steps_show names (b ∷ bytes) text r s h by =
     let m = bound (steps names bytes) (step names r (sign_of b) b) s by in
     let k = step_shows names text r.operand r.pending r.outer (sign_of b) b m.0 h refl m.1 in
@@ -377,9 +372,9 @@ steps_show names (b ∷ bytes) text r s h by =
 whole_spelled : (names : List (List ℕ)) (text : List ℕ) (o : Operand) (p : Pending) (outer : List Pending) (v e : Expr) → Shows names text o p outer → operand_in names o ≡ Some v → whole p outer v ≡ Some e → Spells names a_sum text e
 whole_spelled names text o p [] v e h stands by =
     subst (λ t. Spells names a_sum t e) (sym (h.whole ∙ regroup_whole h.before.sums h.before.products h.before.chains h.before.denials (shown_text names o h.shown)))
-    (subst (λ x. Spells names a_sum (h.before.sums ++ (h.before.products ++ (h.before.chains ++ (h.before.denials ++ shown_text names o h.shown)))) x) (some_same (sum_with p v) e by)
+    (subst (λ x. Spells names a_sum (h.before.sums ++ (h.before.products ++ (h.before.chains ++ (h.before.denials ++ shown_text names o h.shown)))) x) (same_Some (sum_with p v) e by)
     (sum_of names p h.before (shown_text names o h.shown) v (operand_spelled names o h.shown v stands)))
-whole_spelled names text o p (q ∷ outer) v e h stands by = absurd (none_is_some e by)
+whole_spelled names text o p (q ∷ outer) v e h stands by = absurd (none-some e by)
 
 pub read_is_spelled : (names : List (List ℕ)) (text : List ℕ) (e : Expr) → expression names text ≡ Some e → Spells names a_sum text e
 read_is_spelled names text e by =

@@ -7,7 +7,7 @@ use Rattle.sdc_laws.proofs.Members.{find_in, In, no_map}
 use Rattle.sdc_laws.proofs.NetNames.{distinct, names_of, nets_fresh, tokens_fresh, wire_names}
 use Rattle.sdc_laws.proofs.NetTexts.{all_nets, from_text, IsFromText, no_inout}
 use Rattle.sdc_laws.proofs.NetsOfModules.{declares_nets}
-use Rattle.sdc_model.specs.LastLine.{broken_text_line}
+use Rattle.sdc_laws.proofs.Outcomes.{ok_err, same_ok}
 use Rattle.sdc_model.specs.Verilog.{earlier, fault, first_wrong, meaning, meant, module_wrongs, ReadsVerilog, repeated, Wrong, wrong_at, wrongs}
 use Rattle.sdc_model.specs.VerilogNets.{direction_of, is_port_of, meant_module, new_wires, port_names, port_of, ports_of, wires_in}
 use Rattle.sdc_model.specs.VerilogStatements.{declarations, modules_of, Written}
@@ -15,7 +15,7 @@ use Rattle.sdc_model.specs.VerilogSyntax.{Declared, port, Role, tied, wire}
 use Rattle.sdc_model.specs.VerilogTokens.{Token}
 use Rattle.sdc_model.specs.WellFormedDesign.{AreDistinct}
 use Rattle.sdc_model.specs.WellFormedNetlist.{IsNetOfPort, IsWellFormedModule, IsWellFormedNetlist, net_of_port}
-use Rattle.source_types.specs.declared.fault_kinds.VerilogKind.TheVariants.{DoubleName, NotText}
+use Rattle.source_types.specs.declared.fault_kinds.VerilogKind.TheVariants.{DoubleName}
 use Rattle.source_types.specs.declared.fault_kinds.VerilogKind.{VerilogKind}
 use Rattle.source_types.specs.declared.library_cells.Direction.TheVariants.{Other}
 use Rattle.source_types.specs.declared.library_cells.Direction.{Direction}
@@ -23,8 +23,9 @@ use Rattle.source_types.specs.declared.netlists.Module.{Module}
 use Rattle.source_types.specs.declared.netlists.Port.{Port}
 use Rattle.source_types.specs.declared.netlists.Range.{Range}
 use Rattle.source_types.specs.declared.netlists.Wire.{Wire}
-use Rattle.std.proofs.Common.{◌++◌, ◌∙◌, ◌∷◌, ◌≡◌, [], ap, Err, inl, inr, List, map, None, Ok, Option, refl, Result, Some, subst, sym, ℕ}
+use Rattle.std.proofs.Common.{◌++◌, ◌∙◌, ◌∷◌, ◌≡◌, [], ap, inl, inr, List, map, None, Ok, Option, refl, Result, Some, subst, sym, ℕ}
 use Rattle.std.proofs.lemmas.List.Elements.{All-cons, All-nil}
+use Rattle.std.proofs.lemmas.Option.{none-some}
 use Rattle.std.specs.List.{All, AllZip, cons_option, filter_map, find, flat_map}
 use Rattle.token_grammar.proofs.Derivations.{by_option}
 use Rattle.token_grammar.specs.declared.grammar.Break.TheVariants as broken
@@ -36,10 +37,7 @@ directed : (all : List Declared) (name : List ℕ) (q : Port) → port_of all na
 directed all name q h =
     by_option (λ o. find (is_port_of name) all ≡ o → (elim o [ None ↦ None | Some d ↦ elim (direction_of d.role) [ None ↦ None | Some direction ↦ Some (record { name = name; direction = direction; range = d.range }) ] ]) ≡ Some q → (d : Declared) × In d all × (d.role ≡ port q.direction)) (find (is_port_of name) all)
     (λ d _ e is. (d, (find_in (is_port_of name) all d e).0, role_is d.role name d.range q is))
-    (λ _ e is. absurd (no_port q is)) refl h where
-      no_port : (q : Port) → ◌≡◌ {A = Option Port} None (Some q) → ⊥
-      no_port q h = cc
-
+    (λ _ e is. absurd (none-some q is)) refl h where
       role_is : (role : Role) (name : List ℕ) (range : Option Range) (q : Port) → (elim (direction_of role) [ None ↦ None | Some direction ↦ Some (record { name = name; direction = direction; range = range }) ]) ≡ Some q → role ≡ port q.direction
       role_is (port direction) name range q h = let same : direction ≡ q.direction = cc in ap (λ (d : Direction). port d) same
       role_is wire name range q h = cc
@@ -92,24 +90,16 @@ module_names (m ∷ ms) = ap (λ ns. m.name.text ∷ ns) (module_names ms)
 
 no_wrong : (ws : List Wrong) → first_wrong ws ≡ None → ws ≡ []
 no_wrong [] h = refl
-no_wrong (w ∷ ws) h = absurd (some_none (earlier w (first_wrong ws)) h) where
-  some_none : (x : Wrong) → Some x ≡ None → ⊥
-  some_none x h = cc
+no_wrong (w ∷ ws) h = absurd (none-some (earlier w (first_wrong ws)) (sym h))
 
 abbrev Given : Type 0
 Given = Result (List Module) (At VerilogKind)
 
-ok_err : (ms : List Module) (a : At VerilogKind) → ◌≡◌ {A = Given} (Ok ms) (Err a) → ⊥
-ok_err ms a h = cc
-
 meant_fine : (tokens : List Token) (modules : List Module) → ◌≡◌ {A = Given} (Ok modules) (meant (modules_of tokens)) → IsWellFormedNetlist modules
 meant_fine tokens modules h =
     by_option (λ o. first_wrong (wrongs (modules_of tokens)) ≡ o → ◌≡◌ {A = Given} (Ok modules) (elim o [ None ↦ Ok (map meant_module (modules_of tokens)) | Some wrong ↦ fault wrong.token.line wrong.kind ]) → IsWellFormedNetlist modules) (first_wrong (wrongs (modules_of tokens)))
-    (λ w _ e is. absurd (ok_err modules (record { line = w.token.line; kind = w.kind }) is))
+    (λ w _ e is. absurd (ok_err modules _ is))
     (λ _ e is. fine (no_wrong (wrongs (modules_of tokens)) e) (same_ok modules (map meant_module (modules_of tokens)) is)) refl h where
-      same_ok : (ms ns : List Module) → ◌≡◌ {A = Given} (Ok ms) (Ok ns) → ms ≡ ns
-      same_ok ms ns h = cc
-
       fine : wrongs (modules_of tokens) ≡ [] → modules ≡ map meant_module (modules_of tokens) → IsWellFormedNetlist modules
       fine none same =
           let parts = both_nothing (map (wrong_at DoubleName) (repeated [] (map (λ (m : Written). m.name) (modules_of tokens)))) (flat_map module_wrongs (modules_of tokens)) none in
@@ -126,4 +116,4 @@ meaning_fine bytes tokens (Some broken.End) modules h = cc
 -- what bytes mean is well formed
 pub netlist_fine : (bytes : List ℕ) (modules : List Module) → ReadsVerilog bytes (Ok modules) → IsWellFormedNetlist modules
 netlist_fine bytes modules (inl read) = meaning_fine bytes read.tokens read.break modules read.is
-netlist_fine bytes modules (inr none) = absurd (ok_err modules (record { line = broken_text_line bytes; kind = NotText }) none.1)
+netlist_fine bytes modules (inr none) = absurd (ok_err modules _ none.1)

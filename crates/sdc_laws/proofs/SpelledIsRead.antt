@@ -1,6 +1,7 @@
 -- What is spelled by the grammar of a function's text is read, byte by byte, as the expression that it spells.
 use Rattle.std.proofs.Common.{◌≡◌, ℕ, List, [], ◌∷◌, ◌++◌, Option, Some, None, refl, sym, ap, subst, ◌∙◌, inl, inr}
 use Rattle.std.specs.Prelude.{option_and_then, option_map}
+use Rattle.std.proofs.lemmas.Option.{same_Some}
 use Rattle.std.proofs.lemmas.List.{append_assoc, append-nil}
 use Rattle.source_types.specs.declared.function_texts.Operand.{Operand}
 use Rattle.source_types.specs.declared.function_texts.Operand.TheVariants as operand
@@ -320,8 +321,5 @@ spelled_is_read names text e h =
     let all : steps names text nothing_read ≡ Some (at k.last k.before []) = subst (λ t. steps names t nothing_read ≡ Some (at k.last k.before [])) (append-nil text) (k.goes []) in
     ap (option_and_then (ended names)) all ∙ (ap (option_and_then (whole k.before [])) k.stands ∙ ap (λ x. Some x) k.means)
 
-some_same : (d e : Expr) → ◌≡◌ {A = Option Expr} (Some d) (Some e) → d ≡ e
-some_same d e h = cc
-
 pub spells_one : (names : List (List ℕ)) (text : List ℕ) (d e : Expr) → Spells names a_sum text d → Spells names a_sum text e → d ≡ e
-spells_one names text d e h k = some_same d e (sym (spelled_is_read names text d h) ∙ spelled_is_read names text e k)
+spells_one names text d e h k = same_Some d e (sym (spelled_is_read names text d h) ∙ spelled_is_read names text e k)

@@ -3,6 +3,7 @@
 use Rattle.std.proofs.Common.{◌≡◌, ◌∙◌, ℕ, zero, suc, ◌+◌, ◌*◌, ◌/◌, ◌<◌, List, [], ◌∷◌, Some, refl, sym, ap, subst, inl, inr, arith}
 use Rattle.std.specs.Prelude.{◌⊎◌, drop, slice_get}
 use Rattle.std.specs.List.{All, Contains}
+use Rattle.std.proofs.Math.Nat.{lt_trans}
 use Rattle.std.proofs.lemmas.List.Elements.{All-contains, All-from_recursion}
 use Rattle.std.proofs.lemmas.Option.{none-some, same_Some}
 use Rattle.timing_types.specs.declared.graphs.Arc.{Arc}
@@ -121,22 +122,19 @@ arc_in from to Launch arc =
 
 -- ---- they stand in order
 
-less_less : (m n p : ℕ) → m < n → n < p → m < p
-less_less m n p one other = omega arith
-
 abbrev EndsBefore : Arc → Arc → Type 0
 EndsBefore arc other =
     (node_number arc.to < node_number other.to) ⊎ ((arc.to ≡ other.to) × (kind_number arc.kind < kind_number other.kind))
 
 ends_on : (a b c : Arc) → EndsBefore a b → EndsBefore b c → EndsBefore a c
-ends_on a b c (inl one) (inl other) = inl (less_less (node_number a.to) (node_number b.to) (node_number c.to) one other)
+ends_on a b c (inl one) (inl other) = inl (lt_trans one other)
 ends_on a b c (inl one) (inr other) = inl (subst (λ node. node_number a.to < node_number node) other.0 one)
 ends_on a b c (inr one) (inl other) = inl (subst (λ node. node_number node < node_number c.to) (sym one.0) other)
 ends_on a b c (inr one) (inr other) =
-    inr (one.0 ∙ other.0, less_less (kind_number a.kind) (kind_number b.kind) (kind_number c.kind) one.1 other.1)
+    inr (one.0 ∙ other.0, lt_trans one.1 other.1)
 
 stands_on : (a b c : Arc) → ArcStandsBefore a b → ArcStandsBefore b c → ArcStandsBefore a c
-stands_on a b c (inl one) (inl other) = inl (less_less (node_number a.from) (node_number b.from) (node_number c.from) one other)
+stands_on a b c (inl one) (inl other) = inl (lt_trans one other)
 stands_on a b c (inl one) (inr other) = inl (subst (λ node. node_number a.from < node_number node) other.0 one)
 stands_on a b c (inr one) (inl other) = inl (subst (λ node. node_number node < node_number c.from) (sym one.0) other)
 stands_on a b c (inr one) (inr other) = inr (one.0 ∙ other.0, ends_on a b c one.1 other.1)

@@ -28,6 +28,7 @@ use Rattle.sdc_laws.proofs.CellForms.{by_form, whole_cell}
 use Rattle.sdc_laws.proofs.CellFunctions.{functions_are_of_inputs}
 use Rattle.sdc_laws.proofs.DistinctCells.{names_are_distinct}
 use Rattle.sdc_laws.proofs.NamedUnits.{unit_is_one}
+use Rattle.sdc_laws.proofs.Outcomes.{ok_err, same_ok}
 
 -- ---- cells
 
@@ -63,36 +64,24 @@ tokens_usable tokens text none = record {
   usable = All-map (λ (c : LibCell). c.refused ≡ false → IsUsable c) lib_cell (cells_of (statements_of tokens)) (λ k d within. cell_usable (slice_index_or (cells_of (statements_of tokens)) k d));
 }
 
-same_library : (l m : Library) → ◌≡◌ {A = Result Library (At LibKind)} (Ok l) (Ok m) → l ≡ m
-same_library l m is = cc
-
-not_read : (l : Library) (fault : At LibKind) → ◌≡◌ {A = Result Library (At LibKind)} (Ok l) (Err fault) → ⊥
-not_read l fault is = cc
-
 read_usable : (tokens : List Token) (faults : List (At LibKind)) (library : Library) → IsText liberty part.Libraries (kinds 0 tokens) → faults_of (statements_of tokens) ≡ faults → Ok library ≡ library_if (statements_of tokens) faults → IsWellFormedLibrary library
 read_usable tokens [] library text none is =
-    subst IsWellFormedLibrary (sym (same_library library (library_of (statements_of tokens)) is)) (tokens_usable tokens text none)
-read_usable tokens (fault ∷ faults) library text some is = absurd (not_read library fault is)
+    subst IsWellFormedLibrary (sym (same_ok library (library_of (statements_of tokens)) is)) (tokens_usable tokens text none)
+read_usable tokens (fault ∷ faults) library text some is = absurd (ok_err library fault is)
 
 -- ---- bytes
 
-same_tokens : (ts us : List Token) → ◌≡◌ {A = Result (List Token) ℕ} (Ok ts) (Ok us) → ts ≡ us
-same_tokens ts us is = cc
-
-not_formed : (ts : List Token) (line : ℕ) → ◌≡◌ {A = Result (List Token) ℕ} (Ok ts) (Err line) → ⊥
-not_formed ts line is = cc
-
 whole_text : (text : List ℕ) (ts tokens : List Token) (unfinished : Bool) (place : Option Break) → Ok tokens ≡ formed text ts unfinished place → Breaks liberty part.Libraries (kinds 0 ts) place → IsText liberty part.Libraries (kinds 0 tokens)
-whole_text text ts tokens false None is derived = subst (λ us. IsText liberty part.Libraries (kinds 0 us)) (sym (same_tokens tokens ts is)) derived
-whole_text text ts tokens true None is derived = absurd (not_formed tokens _ is)
-whole_text text ts tokens unfinished (Some (break.Token place)) is derived = absurd (not_formed tokens _ is)
-whole_text text ts tokens unfinished (Some break.End) is derived = absurd (not_formed tokens _ is)
+whole_text text ts tokens false None is derived = subst (λ us. IsText liberty part.Libraries (kinds 0 us)) (sym (same_ok tokens ts is)) derived
+whole_text text ts tokens true None is derived = absurd (ok_err tokens _ is)
+whole_text text ts tokens unfinished (Some (break.Token place)) is derived = absurd (ok_err tokens _ is)
+whole_text text ts tokens unfinished (Some break.End) is derived = absurd (ok_err tokens _ is)
 
 formed_usable : (text : List ℕ) (outcome : Result (List Token) ℕ) (library : Library) → IsFormed text outcome → Ok library ≡ read outcome → IsWellFormedLibrary library
 formed_usable text (Ok tokens) library h is =
     read_usable tokens (faults_of (statements_of tokens)) library (whole_text text h.tokens tokens h.unfinished h.place h.gives h.breaks) refl is
-formed_usable text (Err line) library h is = absurd (not_read library _ is)
+formed_usable text (Err line) library h is = absurd (ok_err library _ is)
 
 pub library_usable : (bytes : List ℕ) (library : Library) → ReadsLibrary bytes (Ok library) → IsWellFormedLibrary library
 library_usable bytes library (inl h) = formed_usable bytes h.1.0 library h.1.1 h.1.2
-library_usable bytes library (inr h) = absurd (not_read library _ h.1)
+library_usable bytes library (inr h) = absurd (ok_err library _ h.1)
