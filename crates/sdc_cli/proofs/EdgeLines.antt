@@ -1,6 +1,5 @@
 -- Edges of clocks with times, and lines of a report that are joined at their end.
-use Rattle.std.proofs.Math.Seq.{drop-cons}
-use Rattle.std.proofs.Common.{◌≡◌, ◌+◌, ◌<◌, suc, add-one, length, get_or, drop, ℕ, List, [], ◌∷◌, ◌++◌, refl, sym, ◌∙◌, ap, append_assoc, append-nil, subst, codes}
+use Rattle.std.proofs.Common.{◌≡◌, ◌+◌, drop, ℕ, List, [], ◌∷◌, ◌++◌, refl, sym, ◌∙◌, ap, append_assoc, append-nil, subst, codes}
 use Rattle.timing_types.specs.declared.clocks.Clock.{Clock}
 use Rattle.timing_types.specs.declared.edge_times.Relation.{Relation}
 use Rattle.timing_types.specs.declared.edge_times.TimedEdge.{TimedEdge}
@@ -17,10 +16,6 @@ AreTimed-append (e ∷ es) fs timed others = (timed.0, AreTimed-append es fs tim
 pub AreTimed-clock_edges : (clocks : List Clock) → HaveTimes clocks → AreTimed (clock_edges clocks)
 AreTimed-clock_edges [] have = tt
 AreTimed-clock_edges (clock ∷ clocks) have = AreTimed-append _ _ have.0 (AreTimed-clock_edges clocks have.1)
-
--- the rest of a list from a place on begins with the item there
-pub drop-item : {A : Type 0} (xs : List A) (i : ℕ) (x : A) → i < length xs → x ≡ get_or xs i x → drop i xs ≡ x ∷ drop (i + 1) xs
-drop-item xs i x within is = drop-cons xs i x within ∙ (ap (λ y. y ∷ drop (suc i) xs) (sym is) ∙ ap (λ n. x ∷ drop n xs) (sym (add-one i)))
 
 -- what completes a text behind which one more piece stands
 completes : (All : List ℕ → Type 0) (old text new piece rest : List ℕ) → new ≡ text ++ piece

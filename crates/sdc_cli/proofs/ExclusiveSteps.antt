@@ -1,5 +1,6 @@
 -- The set of exclusive pairs as it grows, and the list of its pairs.
 use Rattle.std.proofs.Common.{◌≡◌, ◌≢◌, ◌<◌, ◌||◌, ◌&&◌, ◌==◌, inl, inr, ℕ, Bool, true, false, cond, min, max, List, [], ◌∷◌, Result, Ok, Err, nat_lt, refl, sym, ◌∙◌, ap, arith}
+use Rattle.std.proofs.Math.Bool.{and-false}
 use Rattle.std.proofs.lemmas.Bool.{and_from, and_parts, lt-ltb, ltb-true, or_cases, or_left, or_right}
 use Rattle.std.specs.BTreeMap.{is_at}
 use Rattle.std.specs.BTreeSet.{BTreeSet, contains}
@@ -77,15 +78,11 @@ parts_any-is (i ∷ is) js p =
     ∙ (ap (λ t. (nat_lt p.first p.second && ((i == p.first && is_among p.second js) || (is_among p.first js && i == p.second))) || t) (parts_any-is is js p)
     ∙ any_of (nat_lt p.first p.second) (is_among p.second js) (is_among p.first js) (i == p.first) (i == p.second) (is_among p.first is) (is_among p.second is))
 
-without : (t : Bool) → false ≡ (t && false)
-without true = refl
-without false = refl
-
 both_of : (t a b r : Bool) → ((t && (a || b)) || (t && r)) ≡ (t && ((a || b) || r))
 both_of t a b r = grind arith
 
 parts_in-is : (groups : List Groups) (p : Pair) → parts_in groups p ≡ (nat_lt p.first p.second && is_parted groups p.first p.second)
-parts_in-is [] p = without (nat_lt p.first p.second)
+parts_in-is [] p = sym (and-false (nat_lt p.first p.second))
 parts_in-is (g ∷ groups) p =
     ap (λ t. t || parts_in groups p) (parts_any-is g.first g.second p)
     ∙ (ap (λ t. (nat_lt p.first p.second && ((is_among p.first g.first && is_among p.second g.second) || (is_among p.second g.first && is_among p.first g.second))) || t) (parts_in-is groups p)

@@ -1,6 +1,5 @@
 -- Places of clocks in groups are below the number of the clocks.
-use Rattle.std.proofs.Common.{◌≡◌, ◌<◌, ◌≤◌, ◌==◌, ◌+◌, ℕ, suc, Bool, true, false, cond, List, [], ◌∷◌, ◌++◌, length, Option, Some, None, refl, sym, subst, arith, inl, inr}
-use Rattle.std.proofs.lemmas.Bool.{eqb-true, or_cases}
+use Rattle.std.proofs.Common.{◌≡◌, ◌<◌, ◌≤◌, ◌==◌, ◌+◌, ℕ, suc, Bool, true, false, cond, List, [], ◌∷◌, ◌++◌, length, Option, Some, None, refl, sym, subst, arith}
 use Rattle.std.proofs.lemmas.Bool.Decides.{nat_tests}
 use Rattle.std.specs.List.{list_any}
 use Rattle.std.specs.Option.{option_and_then, option_map}
@@ -11,10 +10,11 @@ use Rattle.timing_types.specs.declared.objects.Object.TheVariants as object
 use Rattle.timing_types.specs.declared.objects.Value.{Value}
 use Rattle.timing_types.specs.declared.objects.Value.TheVariants as value
 use Rattle.sdc_model.specs.ClockCommands.{GroupOptions, group_options, groups_given, groups_of, groups_placed, no_groups, with_effect}
-use Rattle.sdc_model.specs.ClockGroups.{clock_place, clock_places, group_of, is_among, place_from, places_of}
+use Rattle.sdc_model.specs.ClockGroups.{clock_place, clock_places, group_of, place_from, places_of}
 use Rattle.sdc_model.specs.ListReading.{items_of}
 use Rattle.sdc_model.specs.Words.{same_text}
 use Rattle.sdc_cli.specs.Exclusive.{AllBelow, AreBelow, CommandsBelow}
+use Rattle.sdc_cli.proofs.GroupSteps.{below_cons}
 
 place_step : (t : Bool) (place p n : ℕ) (others : Option ℕ) → (others ≡ Some p → p < (place + 1) + n) → cond t (Some place) others ≡ Some p → p < place + suc n
 place_step true place p n others below e = let same : place ≡ p = cc in omega arith
@@ -24,11 +24,6 @@ place_from-below : (place p : ℕ) (clocks : List Clock) (name : List ℕ) → p
 place_from-below place p [] name e = cc
 place_from-below place p (clock ∷ clocks) name e =
     place_step (same_text clock.name name) place p (length clocks) (place_from (place + 1) clocks name) (place_from-below (place + 1) p clocks name) e
-
-below_cons : (n p : ℕ) (ps : List ℕ) → p < n → AreBelow n ps → AreBelow n (p ∷ ps)
-below_cons n p ps here others place among =
-    elim (or_cases (p == place) (is_among place ps) among)
-    [ inl same ↦ let e : p ≡ place = eqb-true p place same in omega arith | inr there ↦ others place there ]
 
 places_step : (n : ℕ) (found : Option ℕ) (others : Option (List ℕ)) (ps : List ℕ) → ((p : ℕ) → found ≡ Some p → p < n)
     → ((qs : List ℕ) → others ≡ Some qs → AreBelow n qs) → option_and_then (λ place. option_and_then (λ places. Some (place ∷ places)) others) found ≡ Some ps → AreBelow n ps

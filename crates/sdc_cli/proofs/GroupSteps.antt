@@ -1,10 +1,10 @@
 -- The groups of commands as groups that stand against each other, one command and one group at a time.
-use Rattle.std.proofs.Common.{◌≡◌, ◌<◌, ◌≤◌, ◌||◌, ◌+◌, ◌∙◌, ℕ, zero, suc, Bool, true, false, cond, List, [], ◌∷◌, ◌++◌, get_or, length, Result, Ok, Err, refl, sym, ap, subst, arith, inl, inr, append_assoc}
-use Rattle.std.specs.Prelude.{◌==◌, OnOk}
+use Rattle.std.proofs.Common.{◌≡◌, ◌<◌, ◌≤◌, ◌||◌, ◌+◌, ◌∙◌, ℕ, zero, suc, Bool, true, false, cond, List, [], ◌∷◌, ◌++◌, get_or, length, refl, sym, ap, subst, arith, inl, inr, append_assoc}
+use Rattle.std.specs.Prelude.{◌==◌}
+use Rattle.std.proofs.Math.Bool.{or-false, or_assoc}
 use Rattle.std.proofs.lemmas.Bool.{eqb-true, or_cases}
 use Rattle.std.proofs.lemmas.List.Folds.{list_any-append}
 use Rattle.std.specs.BTreeSet.{BTreeSet}
-use Rattle.std.specs.List.{list_any}
 use Rattle.timing_types.specs.declared.clocks.Pair.{Pair}
 use Rattle.sdc_model.specs.ClockGroups.{Groups, against, all_set_apart, every_two, is_among, others_from, set_apart}
 use Rattle.sdc_cli.specs.Exclusive.{AllBelow, AreBelow, CommandsBelow, GroupsBelow, HasMore, has_pair, parts_any, parts_each, parts_in}
@@ -15,24 +15,16 @@ use Rattle.sdc_cli.specs.Exclusive.{AllBelow, AreBelow, CommandsBelow, GroupsBel
 abbrev pub Leads : BTreeSet Pair → List Groups → BTreeSet Pair → List Groups → Type 0
 Leads now left before all = (pair : Pair) → (has_pair now pair || parts_in left pair) ≡ (has_pair before pair || parts_in all pair)
 
-three : (a b c : Bool) → ((a || b) || c) ≡ (a || (b || c))
-three true b c = refl
-three false b c = refl
-
-no_more : (a : Bool) → (a || false) ≡ a
-no_more true = refl
-no_more false = refl
-
 parts_append : (groups others : List Groups) (pair : Pair) → parts_in (groups ++ others) pair ≡ (parts_in groups pair || parts_in others pair)
 parts_append groups others pair = list_any-append (λ (g : Groups). parts_any g.first g.second pair) groups others
 
 leads_on : (now next before : BTreeSet Pair) (groups left all : List Groups) → HasMore now next (parts_in groups) → Leads now (groups ++ left) before all → Leads next left before all
 leads_on now next before groups left all more leads pair =
-    ap (λ t. t || parts_in left pair) (more pair) ∙ three (has_pair now pair) (parts_in groups pair) (parts_in left pair)
+    ap (λ t. t || parts_in left pair) (more pair) ∙ or_assoc (has_pair now pair) (parts_in groups pair) (parts_in left pair)
     ∙ ap (λ t. has_pair now pair || t) (sym (parts_append groups left pair)) ∙ leads pair
 
 leads_all : (now before : BTreeSet Pair) (all : List Groups) → Leads now [] before all → HasMore before now (parts_in all)
-leads_all now before all leads pair = sym (no_more (has_pair now pair)) ∙ leads pair
+leads_all now before all leads pair = sym (or-false (has_pair now pair)) ∙ leads pair
 
 -- the same of all commands, where nothing was there before
 abbrev pub LeadsCommands : BTreeSet Pair → ℕ → List (List (List ℕ)) → List (List (List ℕ)) → Type 0
@@ -43,14 +35,14 @@ pub leads_step : (now next : BTreeSet Pair) (count : ℕ) (groups : List (List �
     → HasMore now next (parts_in (set_apart count groups)) → LeadsCommands now count here all → LeadsCommands next count left all
 leads_step now next count groups here left all e more leads pair =
     ap (λ t. t || parts_in (all_set_apart count left) pair) (more pair)
-    ∙ three (has_pair now pair) (parts_in (set_apart count groups) pair) (parts_in (all_set_apart count left) pair)
+    ∙ or_assoc (has_pair now pair) (parts_in (set_apart count groups) pair) (parts_in (all_set_apart count left) pair)
     ∙ ap (λ t. has_pair now pair || t) (sym (parts_append (set_apart count groups) (all_set_apart count left) pair))
     ∙ ap (λ (cs : List (List (List ℕ))). has_pair now pair || parts_in (all_set_apart count cs) pair) (sym e) ∙ leads pair
 
 pub leads_end : (now : BTreeSet Pair) (count : ℕ) (all left : List (List (List ℕ))) → left ≡ [] → LeadsCommands now count left all
     → (pair : Pair) → has_pair now pair ≡ parts_in (all_set_apart count all) pair
 leads_end now count all left e leads pair =
-    sym (no_more (has_pair now pair)) ∙ ap (λ (cs : List (List (List ℕ))). has_pair now pair || parts_in (all_set_apart count cs) pair) (sym e) ∙ leads pair
+    sym (or-false (has_pair now pair)) ∙ ap (λ (cs : List (List (List ℕ))). has_pair now pair || parts_in (all_set_apart count cs) pair) (sym e) ∙ leads pair
 
 -- ---- groups of a command
 
@@ -78,7 +70,7 @@ pub alone_parts : (old new : BTreeSet Pair) (count : ℕ) (groups : List (List �
     → HasMore old new (parts_any alone (others_from alone 0 count)) → HasMore old new (parts_in (set_apart count groups))
 alone_parts old new count groups alone e more =
     subst (λ (gs : List (List ℕ)). HasMore old new (parts_in (set_apart count gs))) (sym e)
-    (λ pair. more pair ∙ ap (λ t. has_pair old pair || t) (sym (no_more (parts_any alone (others_from alone 0 count) pair))))
+    (λ pair. more pair ∙ ap (λ t. has_pair old pair || t) (sym (or-false (parts_any alone (others_from alone 0 count) pair))))
 
 -- more groups
 several : (count : ℕ) (groups : List (List ℕ)) → 2 ≤ length groups → set_apart count groups ≡ every_two groups
@@ -90,11 +82,6 @@ pub several_part : (old new : BTreeSet Pair) (count : ℕ) (groups : List (List 
     → HasMore old new (parts_in (every_two groups)) → HasMore old new (parts_in (set_apart count groups))
 several_part old new count groups least more =
     subst (λ (gs : List Groups). HasMore old new (parts_in gs)) (sym (several count groups least)) more
-
--- where a call is done, what follows from it
-pub on_ok : {A E : Type 0} (answer : Result A E) (P Q : Type 0) → (P → Q) → OnOk answer P → OnOk answer Q
-on_ok (Ok done) P Q follows p = follows p
-on_ok (Err stopped) P Q follows p = tt
 
 -- ---- the clocks that are not in a group
 
@@ -109,11 +96,14 @@ others_more before group place more =
 
 -- ---- places that are below the number of the clocks
 
-below_step : (n place : ℕ) (test : Bool) (others : List ℕ) → place < n → AreBelow n others → AreBelow n (cond test others (place ∷ others))
-below_step n place true others here below p among = below p among
-below_step n place false others here below p among =
+pub below_cons : (n place : ℕ) (others : List ℕ) → place < n → AreBelow n others → AreBelow n (place ∷ others)
+below_cons n place others here below p among =
     elim (or_cases (place == p) (is_among p others) among)
     [ inl same ↦ let e : place ≡ p = eqb-true place p same in omega arith | inr there ↦ below p there ]
+
+below_step : (n place : ℕ) (test : Bool) (others : List ℕ) → place < n → AreBelow n others → AreBelow n (cond test others (place ∷ others))
+below_step n place true others here below = below
+below_step n place false others here below = below_cons n place others here below
 
 others_below : (n : ℕ) (group : List ℕ) (place more : ℕ) → n ≡ place + more → AreBelow n (others_from group place more)
 others_below n group place zero e = λ p among. cc

@@ -1,4 +1,5 @@
 pub mod Announcements
+pub mod AnswerEnds
 pub mod Arguments
 pub mod BothWritten
 pub mod Budgets
@@ -21,5 +22,6 @@ pub mod PairLists
 pub mod PlaceSteps
 pub mod ReportTrees
 pub mod RisingPairs
+pub mod RunLeaves
 pub mod SaidClocks
 pub mod WriteFaultLines

@@ -24,7 +24,7 @@ use std::alloc::Global;
 /// first fault of a file, `TooLarge` where the merged text would have more than 268,435,456 bytes, `ReadFault`
 /// and `WriteFault` only where the inputs or outputs counted a fault, `Done` where all was written whole, and
 /// `NoMemory` wherever memory ran out.
-#[tactic(auto, using(crate::proofs::Announcements::usage_leaves, crate::proofs::Announcements::usage_names, crate::proofs::Announcements::memory_leaves, crate::proofs::Announcements::memory_names, crate::proofs::Announcements::usage_ends, crate::proofs::Announcements::cause_ends, crate::proofs::Announcements::too_large_ends, crate::proofs::Announcements::read_fault_ends, crate::proofs::Announcements::write_fault_ends, crate::proofs::Announcements::reads_ends))]
+#[tactic(auto, using(crate::proofs::RunLeaves::usage_leaves, crate::proofs::RunLeaves::usage_names, crate::proofs::RunLeaves::memory_leaves, crate::proofs::RunLeaves::memory_names, crate::proofs::AnswerEnds::usage_ends, crate::proofs::AnswerEnds::cause_ends, crate::proofs::AnswerEnds::too_large_ends, crate::proofs::AnswerEnds::read_fault_ends, crate::proofs::AnswerEnds::write_fault_ends, crate::proofs::AnswerEnds::reads_ends))]
 pub fn run<I: Inputs, O: Outputs>(
     alloc: Global,
     words: &[String],
@@ -72,7 +72,7 @@ pub fn run<I: Inputs, O: Outputs>(
 }
 
 /// Runs a command line, and names what stopped it.
-#[tactic(auto, using(crate::proofs::Announcements::cause_ends, crate::proofs::Announcements::write_fault_ends))]
+#[tactic(auto, using(crate::proofs::AnswerEnds::cause_ends, crate::proofs::AnswerEnds::write_fault_ends))]
 fn run_line<I: Inputs, O: Outputs>(
     alloc: Global,
     line: &CommandLine,

@@ -2,16 +2,17 @@ use Rattle.std.proofs.Common.{[], List, refl, sym, subst}
 use Rattle.std.proofs.lemmas.List.{drop_all}
 use Rattle.timing_types.specs.declared.edge_times.TimedEdge.{TimedEdge}
 use Rattle.sdc_model.specs.EdgesText.{AreTimed, AreLines}
-use Rattle.sdc_cli.proofs.EdgeLines.{drop-item, Lines-more, all_appended}
+use Rattle.tcl_eval.proofs.TurnFacts.{drop_item}
+use Rattle.sdc_cli.proofs.EdgeLines.{Lines-more, all_appended}
 use Rattle.sdc_cli.proofs.edges_report.append_all_lines.Goals as goal
 
 pub append_lines_from-requires-clause-launch : goal.append_lines_from-requires-clause-launch
 append_lines_from-requires-clause-launch c =
-    (subst AreTimed (drop-item _ _ _ c.loop-launch-test.true c.launch-item.is) c.loop-launch.invariant.timed).0
+    (subst AreTimed (drop_item _ _ _ c.loop-launch-test.true c.launch-item.is) c.loop-launch.invariant.timed).0
 
 pub loop-launch-preserved : goal.loop-launch-preserved
 loop-launch-preserved c =
-    let at = drop-item _ _ _ c.loop-launch-test.true c.launch-item.is in
+    let at = drop_item _ _ _ c.loop-launch-test.true c.launch-item.is in
     record {
       timed = (subst AreTimed at c.loop-launch.invariant.timed).1;
       lines = Lines-more _ _ c.args.edges.now _ c.loop-launch.launch-index _ _ _ _ at c.loop-launch.invariant.lines c.in_ok-append_lines_from.ensures;

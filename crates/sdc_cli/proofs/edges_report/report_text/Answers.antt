@@ -3,14 +3,15 @@ use Rattle.std.proofs.lemmas.List.{drop_all}
 use Rattle.timing_types.specs.declared.clocks.Clock.{Clock}
 use Rattle.timing_types.specs.declared.modes.Mode.{Mode}
 use Rattle.sdc_model.specs.EdgesText.{Appends, AreReports, IsReport, ModesHaveTimes}
-use Rattle.sdc_cli.proofs.EdgeLines.{drop-item, Reports-more}
+use Rattle.tcl_eval.proofs.TurnFacts.{drop_item}
+use Rattle.sdc_cli.proofs.EdgeLines.{Reports-more}
 use Rattle.sdc_cli.proofs.edges_report.report_text.Goals as goal
 
 pub loop-at-preserved : goal.loop-at-preserved
 loop-at-preserved c =
     let within : c.loop-at.at < length c.args.modes.now = omega arith in
-    let at = drop-item c.args.files.now c.loop-at.at _ c.loop-at-test.true c.index-files-at.is in
-    let at_mode = drop-item c.args.modes.now c.loop-at.at _ within c.index-modes-at.is in
+    let at = drop_item c.args.files.now c.loop-at.at _ c.loop-at-test.true c.index-files-at.is in
+    let at_mode = drop_item c.args.modes.now c.loop-at.at _ within c.index-modes-at.is in
     let P : List ℕ → List Clock → Type 0 = λ file clocks. Appends (IsReport file clocks) c.loop-at.text.items c.append_report.new.text.items in
     let report : P c.index-files-at.result c.index-modes-at.result.clocks =
     subst (λ (file : List ℕ). P file c.index-modes-at.result.clocks) c.as_str.ensures

@@ -4,7 +4,7 @@ use Rattle.std.proofs.lemmas.List.{drop_all}
 use Rattle.std.proofs.lemmas.Result.{err_from_is_err_and}
 use Rattle.sdc_model.specs.Answers.{OnTold, most_clocks, first_place, files_of}
 use Rattle.sdc_cli.specs.Steps.{ReadsMode}
-use Rattle.sdc_cli.proofs.EdgeLines.{drop-item}
+use Rattle.tcl_eval.proofs.TurnFacts.{drop_item}
 use Rattle.sdc_cli.proofs.MergedModes.{printable-push, clocks_in-push}
 use Rattle.sdc_cli.proofs.ModeSteps.{ReadSoFar-more, ReadSoFar-stops, ReadSoFar-all}
 use Rattle.sdc_cli.proofs.mode_files.read_modes.Goals as goal
@@ -13,7 +13,7 @@ pub returns-in_err-mode-clause-told : goal.returns-in_err-mode-clause-told
 returns-in_err-mode-clause-told g c =
     let name = c.index-names-at.result in
     let here : drop c.loop-at.at (files_of c.args.line.now) ≡ name ∷ drop (c.loop-at.at + 1) (files_of c.args.line.now) =
-    rw c.files_of-names.ensures at (drop-item c.files_of-names.result.now c.loop-at.at _ c.loop-at-test.true c.index-names-at.is) in
+    rw c.files_of-names.ensures at (drop_item c.files_of-names.result.now c.loop-at.at _ c.loop-at-test.true c.index-names-at.is) in
     let reads : OnTold (ReadsMode (most_clocks c.args.line.now) c.loop-at.count (first_place c.args.line.now + c.loop-at.at) name (Err c.in_err-mode.field-0.0)) (g.I.Inputs.told c.loop-at.inputs) (g.I.Inputs.told c.read_file.new.inputs) =
     rw (c.most_clocks-most.ensures, c.first_place-first.ensures, c.as_str.ensures) at c.in_err-mode.ensures.told in
     let p = err_from_is_err_and c.from_residual.result c.from_residual.ensures.1 in
@@ -23,7 +23,7 @@ pub loop-at-preserved : goal.loop-at-preserved
 loop-at-preserved g c =
     let name = c.index-names-at.result in
     let here : drop c.loop-at.at (files_of c.args.line.now) ≡ name ∷ drop (c.loop-at.at + 1) (files_of c.args.line.now) =
-    rw c.files_of-names.ensures at (drop-item c.files_of-names.result.now c.loop-at.at _ c.loop-at-test.true c.index-names-at.is) in
+    rw c.files_of-names.ensures at (drop_item c.files_of-names.result.now c.loop-at.at _ c.loop-at-test.true c.index-names-at.is) in
     let reads : OnTold (ReadsMode (most_clocks c.args.line.now) c.loop-at.count (first_place c.args.line.now + c.loop-at.at) name (Ok c.in_ok-mode.mode)) (g.I.Inputs.told c.loop-at.inputs) (g.I.Inputs.told c.read_file.new.inputs) =
     rw (c.most_clocks-most.ensures, c.first_place-first.ensures, c.as_str.ensures) at c.in_ok-mode.ensures.told in
     let next : first_place c.args.line.now + (c.loop-at.at + 1) ≡ suc (first_place c.args.line.now + c.loop-at.at) = omega arith in

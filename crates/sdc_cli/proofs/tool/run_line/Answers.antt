@@ -1,6 +1,7 @@
 use Rattle.std.proofs.Common.{Some}
 use Rattle.sdc_cli.specs.Announced.{HasCauses}
-use Rattle.sdc_cli.proofs.Announcements.{leaves_faults, leaves_written, read_fault_ends, reads_ends, rose_second, too_large_ends, usage_ends}
+use Rattle.sdc_cli.proofs.AnswerEnds.{read_fault_ends, reads_ends, rose_second, too_large_ends, usage_ends}
+use Rattle.sdc_cli.proofs.RunLeaves.{leaves_faults, leaves_written}
 use Rattle.sdc_cli.proofs.tool.run_line.Goals as goal
 
 pub returns-clause-usage : goal.returns-clause-usage
