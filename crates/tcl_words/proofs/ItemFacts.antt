@@ -1,7 +1,7 @@
 -- Items of a list by their first byte.
-use Rattle.std.proofs.Common.{◌≡◌, ◌<◌, ◌≤◌, ◌+◌, ◌-◌, ◌==◌, ◌||◌, ◌&&◌, inl, inr, ◌⊎◌, ℕ, true, false, List, [], ◌∷◌, Option, Some, None, Result, Ok, Err, drop, take, length, get_or, refl, sym, ap, subst, ◌∙◌, arith}
+use Rattle.std.proofs.Common.{◌≡◌, ◌<◌, ◌+◌, ◌-◌, ◌==◌, ◌||◌, ◌&&◌, inl, inr, ◌⊎◌, ℕ, true, false, List, [], ◌∷◌, Option, Some, None, Result, Ok, Err, drop, length, get_or, refl, sym, ap, subst, ◌∙◌, arith}
 use Rattle.std.proofs.lemmas.Bool.{cases_Bool, ne_eqb, or_parts, not-true}
-use Rattle.std.proofs.lemmas.List.{drop_more, length-drop}
+use Rattle.std.proofs.lemmas.List.{drop_more}
 use Rattle.std.specs.Str.{IsUtf8}
 use Rattle.sdc_base.specs.Gives.{Meets}
 use Rattle.sdc_base.specs.declared.memory.Stop.{Stop}

@@ -14,7 +14,6 @@ use Rattle.sdc_model.specs.Bytes.{before, begins_with, behind, front, is_name_by
 use Rattle.sdc_model.specs.Enclosed.{behind_bracket}
 use Rattle.sdc_model.specs.Pieces as grammar
 use Rattle.sdc_model.specs.Row.{found, stops}
-use Rattle.tcl_words.specs.declared.pieces.Kind.{Kind}
 use Rattle.tcl_words.specs.declared.pieces.Kind.TheVariants.{Script, Variable}
 use Rattle.tcl_words.specs.declared.pieces.Step.{Step}
 use Rattle.tcl_words.specs.declared.pieces.Step.TheVariants.{Found}

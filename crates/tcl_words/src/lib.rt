@@ -21,8 +21,6 @@ mod runs;
 mod scan;
 mod spelled;
 mod substitutions;
-#[cfg(test)]
-mod tests;
 
 pub use laws::{first_is_one, split_is_one};
 pub use list_laws::{list_is_one, made_list_reads_back};

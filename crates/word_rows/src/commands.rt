@@ -1,16 +1,11 @@
 //! Commands of small texts, as a reader of the Tcl rules splits them by hand.
 //! A word is shown by its parts: a text in `'`, a variable behind `$`, a script in brackets.
 
-mod faults;
-mod gaps;
-mod lists;
-mod words;
-
-use crate::{next_command, split};
 use sdc_base::{At, List, NoMemory, Stop};
 use sdc_model::{Command, Next, Part, Word};
 use std::alloc::Global;
 use std::test::Fail;
+use tcl_words::{next_command, split};
 
 /// A word by its parts, behind a blank.
 fn show_word(shown: &mut String, word: &Word) -> Result<(), NoMemory> {
@@ -52,7 +47,7 @@ fn show_split(alloc: Global, text: &str) -> Result<String, NoMemory> {
 }
 
 /// The texts whose commands are others than those beside them, with what they are.
-fn unlike(alloc: Global, rows: &[(&str, &str)]) -> Result<String, NoMemory> {
+pub fn unlike(alloc: Global, rows: &[(&str, &str)]) -> Result<String, NoMemory> {
     let mut all = String::new(alloc);
     for (text, wanted) in rows.iter() {
         let shown = show_split(alloc, text)?;

@@ -1,6 +1,6 @@
 //! Words of each form, and their parts.
 
-use crate::tests::unlike;
+use crate::commands::unlike;
 use std::test::Fail;
 
 #[test]

@@ -1,10 +1,10 @@
 //! Items of lists, as a reader of the Tcl rules parts them by hand, and the texts of lists.
 //! An item is shown in `'` and `'`.
 
-use crate::{list_items, list_text};
 use sdc_base::{List, NoMemory, Stop, Text};
 use std::alloc::Global;
 use std::test::Fail;
+use tcl_words::{list_items, list_text};
 
 /// The items of a list, one behind the other.
 fn show_items(alloc: Global, items: &List<Text>) -> Result<String, NoMemory> {

@@ -1,6 +1,6 @@
 //! Texts that cannot be read, and the line of their fault.
 
-use crate::tests::unlike;
+use crate::commands::unlike;
 use std::test::Fail;
 
 #[test]

@@ -1,6 +1,6 @@
 //! What parts words and commands, and the lines of commands.
 
-use crate::tests::unlike;
+use crate::commands::unlike;
 use std::test::Fail;
 
 #[test]
