@@ -8,14 +8,10 @@ mod known;
 mod names;
 mod numbers;
 mod operands;
-#[cfg(test)]
-mod parse_tests;
 mod parsing;
 mod pending;
 mod reading;
 mod table;
-#[cfg(test)]
-mod table_tests;
 
 pub use known::Known;
 pub use names::Names;

@@ -1,6 +1,6 @@
 //! Functions as they stand in libraries, with the expressions that a reader of Liberty's rules groups by hand.
 
-use crate::{Names, parse};
+use bool_lanes::{Names, parse};
 use sdc_base::{List, NoMemory, Stop, Text};
 use sdc_model::Expr;
 use std::alloc::Global;

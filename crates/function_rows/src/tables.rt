@@ -1,15 +1,23 @@
 //! Tables of small functions, and of chains of ten inputs, with values computed by hand.
 
-ghost use Rattle.std.specs.Prelude.{◌≡◌, ◌≤◌, IfOk};
+ghost use Rattle.std.specs.Prelude.{◌≡◌, ◌≤◌, ◌<◌, IfOk};
+ghost use Rattle.std.specs.Int.{bit_at};
 ghost use Rattle.sdc_model.specs.FunctionValue.{pins_are_below};
 
-use crate::known::bit;
-use crate::{Known, Names, Table, parse};
+use bool_lanes::{Known, Names, Table, parse};
 use sdc_base::{List, NoMemory, Stop, Text};
 use sdc_model::Expr;
 use std::alloc::Global;
 use std::process::Abort;
 use std::test::Fail;
+
+/// A bit of a number, counted from the lowest.
+fn bit(number: u16, place: u8) -> u16
+    requires { place < 16 }
+    ensures { result ≡ bit_at number place }
+{
+    (number >> place) & 1
+}
 
 /// The names `A`, `B` and so on of ten inputs.
 fn ten_names(alloc: Global) -> Result<List<Text>, NoMemory> {
