@@ -5,17 +5,11 @@
 #![tactic(auto)]
 
 mod arcs;
-#[cfg(test)]
-mod break_tests;
 mod cell_faults;
 mod cell_names;
-#[cfg(test)]
-mod cell_tests;
 mod cells;
 mod characters;
 mod checks;
-#[cfg(test)]
-mod fault_tests;
 mod functions;
 mod grammar;
 mod kinds;
@@ -23,8 +17,6 @@ mod launches;
 mod lexing;
 mod libraries;
 mod library_faults;
-#[cfg(test)]
-mod limit_tests;
 mod members;
 mod pins;
 mod read;
@@ -33,12 +25,8 @@ mod related;
 mod rest;
 mod said;
 mod scan;
-#[cfg(test)]
-mod shown;
 mod statements;
 mod timing;
-#[cfg(test)]
-mod timing_tests;
 mod tokens;
 mod units;
 mod words;

@@ -1,6 +1,6 @@
 //! Libraries that have a fault, each with its line and its fault as a reader of the rules counts them.
 
-use crate::read::read_lib;
+use lib_cells::read_lib;
 use sdc_base::{At, Stop};
 use sdc_model::LibKind;
 use std::alloc::Global;

@@ -1,6 +1,6 @@
 //! Libraries as deep and as large as they go, and those one step beyond.
 
-use crate::fault_tests::refused_text;
+use crate::faults::refused_text;
 use sdc_base::NoMemory;
 use sdc_model::LibKind;
 use std::alloc::Global;

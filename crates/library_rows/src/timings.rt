@@ -1,6 +1,6 @@
 //! Types and senses of timing as they stand in libraries, with the arcs and checks that a reader of the rules counts by hand.
 
-use crate::cell_tests::means;
+use crate::cells::means;
 use sdc_base::NoMemory;
 use std::alloc::Global;
 use std::process::Abort;

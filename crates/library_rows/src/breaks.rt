@@ -1,6 +1,6 @@
 //! Texts that are no libraries, each with the line where it breaks as a reader of the grammar counts it.
 
-use crate::fault_tests::{refused, refused_text};
+use crate::faults::{refused, refused_text};
 use sdc_model::LibKind;
 
 static BREAKS: [(&str, u32); 53] = [

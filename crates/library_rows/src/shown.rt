@@ -1,6 +1,6 @@
 //! Libraries as short texts, for tests: a cell's name, its pins, its arcs and its checks, pins by their places.
 
-use crate::read::read_lib;
+use lib_cells::read_lib;
 use sdc_base::{NoMemory, Stop};
 use sdc_model::{Expr, LibArc, LibCell, LibCheck, LibPin, Library};
 use std::alloc::Global;
