@@ -17,36 +17,22 @@ mod instances;
 mod kind_numbers;
 mod lexed;
 mod meant;
-#[cfg(test)]
-mod module_break_tests;
 mod modules;
-#[cfg(test)]
-mod name_fault_tests;
 mod name_sets;
 mod names;
 mod netlist_text;
 mod nets;
 mod numbers;
-#[cfg(test)]
-mod operand_break_tests;
 mod parts;
 mod pieces;
 mod ports;
 mod read;
 mod recognition;
-#[cfg(test)]
-mod refused;
 mod repeats;
 mod runs;
-#[cfg(test)]
-mod shown;
 mod statements;
 mod tokens;
-#[cfg(test)]
-mod use_fault_tests;
 mod uses;
-#[cfg(test)]
-mod value_tests;
 mod words;
 mod written;
 

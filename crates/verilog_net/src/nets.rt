@@ -16,12 +16,11 @@ ghost use Rattle.verilog_net.specs.Syntax.{declared_seen, declareds_seen, parts_
 ghost use Rattle.verilog_net.specs.Wires.{AddsWire, candidate_seen, candidates_seen, texts};
 
 use crate::declarations::{Declared, Role, add_statement_declares};
-use crate::name_sets::{NameSet, add_name, has_name};
+use crate::name_sets::{NameSet, add_name, has_name, no_names};
 use crate::names::Names;
 use crate::pieces::Piece;
 use crate::statements::add_pieces_in;
 use crate::tokens::Token;
-use indexmap::IndexSet;
 use sdc_base::{Duplicate, List, NoMemory, Text};
 use sdc_model::{Port, Range, VerilogToken, Wire};
 use std::alloc::Global;
@@ -191,7 +190,7 @@ fn all_nets<'a>(
 fn name_set(alloc: Global, names: &[Token<'_>]) -> Result<NameSet, NoMemory>
     ensures { IfOk result (λ set. HasNames set (texts (tokens_seen names.now))) }
 {
-    let mut set = IndexSet::new(alloc);
+    let mut set = no_names(alloc);
     for name in names {
         add_name(alloc, &mut set, name.text)?;
     }

@@ -17,10 +17,10 @@ ghost use Rattle.verilog_net.specs.Seen.{token_seen, tokens_seen};
 ghost use Rattle.verilog_net.specs.Syntax.{declared_seen, declareds_seen};
 
 use crate::declarations::{Declared, Role};
-use crate::name_sets::{NameSet, add_name, has_name};
+use crate::name_sets::{NameSet, add_name, has_name, no_names};
 use crate::names::is_port;
 use crate::tokens::Token;
-use indexmap::{IndexMap, IndexSet};
+use indexmap::IndexMap;
 use sdc_base::NoMemory;
 use sdc_model::Range;
 use std::alloc::Global;
@@ -45,7 +45,7 @@ fn add_repeated<'a>(
 pub fn repeated<'a>(alloc: Global, names: &[Token<'a>]) -> Result<Vec<Token<'a>>, NoMemory>
     ensures { IfOk result (λ found. tokens_seen found.items ≡ spec.repeated [] (tokens_seen names.now)) }
 {
-    let mut before = IndexSet::new(alloc);
+    let mut before = no_names(alloc);
     let mut found = Vec::new(alloc);
     for name in names {
         add_repeated(&before, name, &mut found)?;

@@ -1,10 +1,10 @@
 //! Modules as short texts, for tests: a module's name with its line, its ports, its nets, its instances with their lines,
 //! and its assignments.
 
-use crate::read::read_verilog;
 use sdc_base::{NoMemory, Stop};
 use sdc_model::{Assign, Bit, Instance, Link, Links, Module, Port, Range, Wire};
 use std::alloc::Global;
+use verilog_net::read_verilog;
 
 /// A bit behind a blank: its name with its index, or its value.
 fn show_bit(alloc: Global, shown: &mut String, bit: &Bit) -> Result<(), NoMemory> {

@@ -1,10 +1,10 @@
 //! What bytes are refused as, for tests.
 
-use crate::read::read_verilog;
 use sdc_base::{At, Stop};
 use sdc_model::VerilogKind;
 use std::alloc::Global;
 use std::process::Abort;
+use verilog_net::read_verilog;
 
 /// Sees that bytes are refused on a line with a fault, or taken where the line is 0.
 pub fn refused(rt: &impl Abort, alloc: Global, bytes: &[u8], line: u32, kind: VerilogKind) {

@@ -1,12 +1,12 @@
 //! Netlists with what they mean, as a reader of the rules counts it by hand.
 
-use crate::read::read_verilog;
 use crate::shown::show_text;
 use sdc_base::NoMemory;
 use sdc_model::{Bit, Module};
 use std::alloc::Global;
 use std::process::Abort;
 use std::test::Fail;
+use verilog_net::read_verilog;
 
 /// The value of a constant bit as a letter, and `n` for a bit of a net.
 fn letter(bit: &Bit) -> char {
