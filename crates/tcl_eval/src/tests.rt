@@ -1,8 +1,5 @@
-//! Expressions of small texts: their steps as a reader of the Tcl rules groups them by hand, and their values. Runs of
-//! small scripts.
+//! Expressions of small texts: their steps as a reader of the Tcl rules groups them by hand, and their values.
 
-mod recording;
-mod scripts;
 mod steps;
 mod values;
 

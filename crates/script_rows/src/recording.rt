@@ -3,10 +3,10 @@
 ghost use Rattle.std.specs.Prelude.{List, ℕ, codes};
 ghost use Rattle.std.specs.String.{string_bytes};
 
-use crate::{Commands, eval};
 use sdc_base::{At, List, NoMemory, Stop, Text};
 use sdc_model::{Kind, Object, SdcKind, Value};
 use std::alloc::Global;
+use tcl_eval::{Commands, eval};
 
 /// A host that writes down each call as `LINE:NAME(VALUES)`, a list of objects as `@` and its length. `clocks` gives two
 /// clocks with the names `p` and `q`, `none` no object, `refuse` is refused, `number` gives 0, and every other name gives its

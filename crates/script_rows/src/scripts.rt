@@ -1,6 +1,6 @@
 //! Runs of small scripts over a host that shows its calls: order, lines, values, and the first fault.
 
-use crate::tests::recording::show_run;
+use crate::recording::show_run;
 use sdc_base::NoMemory;
 use std::alloc::Global;
 use std::test::Fail;
