@@ -2,12 +2,13 @@
 use Rattle.std.proofs.Common.{◌≡◌, Bool, true, false, List, [], ◌∷◌, None, refl}
 use Rattle.std.specs.Prelude.{◌&&◌, not, is_some}
 use Rattle.std.specs.List.{list_all}
-use Rattle.std.proofs.lemmas.Bool.{and_parts}
+use Rattle.std.proofs.lemmas.Bool.{not-true}
 use Rattle.source_types.specs.declared.liberty_tokens.Gap.TheVariants.{Nothing, Blanks, LineEnd}
 use Rattle.source_types.specs.declared.liberty_tokens.LibertySymbol.{LibertySymbol}
 use Rattle.source_types.specs.declared.liberty_tokens.LibertySymbol.TheVariants as part
 use Rattle.source_types.specs.declared.liberty_tokens.LibertyToken.{LibertyToken}
 use Rattle.source_types.specs.declared.liberty_tokens.LibertyToken.TheVariants as token
+use Rattle.sdc_model.proofs.ListFacts.{Each, each}
 use Rattle.sdc_model.specs.LibertyGrammar.{liberty}
 use Rattle.token_grammar.proofs.Samples.{productive}
 use Rattle.token_grammar.specs.Deciding.{Decides, is_covered}
@@ -72,15 +73,7 @@ follow part.Enclosed t = behind_enclosed t
 follow part.AttributeEnd t = is_end t
 follow part.GroupEnd t = in_group t
 
--- ---- tests of all items of a list
-
-abbrev Each : {A : Type 0} → (A → Bool) → List A → Type 0
-Each test [] = Unit {0}
-Each test (x ∷ xs) = (test x ≡ true) × Each test xs
-
-each : {A : Type 0} (test : A → Bool) (xs : List A) → list_all test xs ≡ true → Each test xs
-each test [] is = tt
-each test (x ∷ xs) is = let both = and_parts (test x) (list_all test xs) is in (both.0, each test xs both.1)
+-- ---- all tokens and all symbols
 
 abbrev tokens : List LibertyToken
 tokens =
@@ -176,13 +169,9 @@ is_apart symbol kind = not (liberty.nullable symbol && (follow symbol kind && is
 are_apart : list_all (λ symbol. list_all (is_apart symbol) tokens) symbols ≡ true
 are_apart = refl
 
-not_true : (b : Bool) → not b ≡ true → b ≡ false
-not_true false is = refl
-not_true true is = cc
-
 apart : (symbol : LibertySymbol) (kind : LibertyToken) → (liberty.nullable symbol && (follow symbol kind && is_some (liberty.next symbol kind))) ≡ false
 apart symbol kind =
-    not_true (liberty.nullable symbol && (follow symbol kind && is_some (liberty.next symbol kind)))
+    not-true (liberty.nullable symbol && (follow symbol kind && is_some (liberty.next symbol kind)))
     (all_tokens (is_apart symbol) (all_symbols (λ s. list_all (is_apart s) tokens) are_apart symbol) kind)
 
 -- ---- what may follow covers the right sides

@@ -2,12 +2,13 @@
 use Rattle.std.proofs.Common.{◌≡◌, Bool, true, false, List, [], ◌∷◌, None, refl}
 use Rattle.std.specs.Prelude.{◌&&◌, ◌||◌, Some, not, is_some, if◌then◌else◌}
 use Rattle.std.specs.List.{list_all}
-use Rattle.std.proofs.lemmas.Bool.{and_from, and_parts}
+use Rattle.std.proofs.lemmas.Bool.{not-true}
 use Rattle.sdc_base.proofs.CaseFacts.{by_bool}
 use Rattle.source_types.specs.declared.verilog_tokens.VerilogSymbol.{VerilogSymbol}
 use Rattle.source_types.specs.declared.verilog_tokens.VerilogSymbol.TheVariants as part
 use Rattle.source_types.specs.declared.verilog_tokens.VerilogToken.{VerilogToken}
 use Rattle.source_types.specs.declared.verilog_tokens.VerilogToken.TheVariants as token
+use Rattle.sdc_model.proofs.ListFacts.{Each, all_pass, each}
 use Rattle.sdc_model.specs.VerilogGrammar.{verilog}
 use Rattle.sdc_model.specs.VerilogKinds.{same_kind}
 use Rattle.token_grammar.proofs.Samples.{productive}
@@ -39,19 +40,7 @@ follow part.Bits t = behind_net t
 follow part.Connected t = behind_connected t
 follow _ t = true
 
--- ---- tests of all items of a list
-
-abbrev Each : {A : Type 0} → (A → Bool) → List A → Type 0
-Each test [] = Unit {0}
-Each test (x ∷ xs) = (test x ≡ true) × Each test xs
-
-each : {A : Type 0} (test : A → Bool) (xs : List A) → list_all test xs ≡ true → Each test xs
-each test [] is = tt
-each test (x ∷ xs) is = let both = and_parts (test x) (list_all test xs) is in (both.0, each test xs both.1)
-
-all_pass : {A : Type 0} (test : A → Bool) → ((x : A) → test x ≡ true) → (xs : List A) → list_all test xs ≡ true
-all_pass test passes [] = refl
-all_pass test passes (x ∷ xs) = and_from (test x) (list_all test xs) (passes x) (all_pass test passes xs)
+-- ---- all tokens and all symbols
 
 abbrev tokens : List VerilogToken
 tokens =
@@ -195,13 +184,9 @@ is_apart symbol kind = not (verilog.nullable symbol && (follow symbol kind && is
 are_apart : list_all (λ symbol. list_all (is_apart symbol) tokens) symbols ≡ true
 are_apart = refl
 
-not_true : (b : Bool) → not b ≡ true → b ≡ false
-not_true false is = refl
-not_true true is = cc
-
 apart : (symbol : VerilogSymbol) (kind : VerilogToken) → (verilog.nullable symbol && (follow symbol kind && is_some (verilog.next symbol kind))) ≡ false
 apart symbol kind =
-    not_true (verilog.nullable symbol && (follow symbol kind && is_some (verilog.next symbol kind)))
+    not-true (verilog.nullable symbol && (follow symbol kind && is_some (verilog.next symbol kind)))
     (all_tokens (is_apart symbol) (all_symbols (λ s. list_all (is_apart s) tokens) (λ t. refl) are_apart symbol) kind)
 
 -- ---- what may follow covers the right sides
