@@ -1,5 +1,4 @@
-//! Arithmetic whose values come from outside: Tcl divided the whole numbers, Python's decimal module
-//! computed the rest.
+//! Sums, differences and products whose values come from outside: Python's decimal module computed them.
 use crate::fixed::{Fixed, NumberError};
 use crate::memory::NoMemory;
 use crate::texts::Text;
@@ -9,7 +8,7 @@ use std::test::Fail;
 
 /// Which call a table is about.
 #[derive(Clone, Copy)]
-enum Operator {
+pub enum Operator {
     Add,
     Sub,
     Mul,
@@ -18,7 +17,7 @@ enum Operator {
 }
 
 /// Two numbers and the text of what they give, or why they give nothing.
-type Row = (&'static str, &'static str, &'static str);
+pub type Row = (&'static str, &'static str, &'static str);
 
 static SUMS: [Row; 20] = [
     ("1", "2", "3"),
@@ -149,103 +148,6 @@ static PRODUCTS: [Row; 37] = [
     ("-999999999999999.999999999", "0.5", "-500000000000000.0"),
 ];
 
-static QUOTIENTS: [Row; 44] = [
-    ("-7", "2", "-4"),
-    ("7", "2", "3"),
-    ("7", "-2", "-4"),
-    ("-7", "-2", "3"),
-    ("8", "-2", "-4"),
-    ("1", "0", "divided by zero"),
-    ("0", "0", "divided by zero"),
-    ("1.0", "0", "divided by zero"),
-    ("1", "0.0", "divided by zero"),
-    ("999999999999999", "0", "divided by zero"),
-    ("0", "5", "0"),
-    ("0.0", "-5", "0.0"),
-    ("1", "3", "0"),
-    ("-1", "3", "-1"),
-    ("1", "-3", "-1"),
-    ("-1", "-3", "0"),
-    ("7.0", "2", "3.5"),
-    ("7", "2.0", "3.5"),
-    ("2.0", "3", "0.666666667"),
-    ("-2.0", "3", "-0.666666667"),
-    ("1", "2000000000.0", "0.000000001"),
-    ("-1", "2000000000.0", "-0.000000001"),
-    ("3", "2000000000.0", "0.000000002"),
-    ("-3", "2000000000.0", "-0.000000002"),
-    ("1", "2000000001.0", "0.0"),
-    ("-1", "2000000001.0", "0.0"),
-    ("0.000000001", "-2", "-0.000000001"),
-    ("0.000000001", "2.000000001", "0.0"),
-    ("0.000000005", "2", "0.000000003"),
-    ("-0.000000005", "2", "-0.000000003"),
-    ("999999999999999", "1", "999999999999999"),
-    ("-999999999999999", "1", "-999999999999999"),
-    ("-999999999999999", "2", "-500000000000000"),
-    ("999999999999999", "-2", "-500000000000000"),
-    ("-999999999999999", "999999999999999", "-1"),
-    ("-1", "999999999999999", "-1"),
-    ("1", "-999999999999999", "-1"),
-    ("999999999999999", "1.0", "999999999999999.0"),
-    ("1000000", "0.000000001", "out of range"),
-    ("999999.999999999", "0.000000001", "999999999999999.0"),
-    ("999999.999999999", "-0.000000001", "-999999999999999.0"),
-    ("500000000000000", "0.5", "out of range"),
-    ("499999999999999.5", "0.5", "999999999999999.0"),
-    (
-        "999999999999999.999999999",
-        "999999999999999.999999998",
-        "1.0",
-    ),
-];
-
-static REMAINDERS: [Row; 21] = [
-    ("7", "2", "1"),
-    ("-7", "2", "1"),
-    ("7", "-2", "-1"),
-    ("-7", "-2", "-1"),
-    ("6", "3", "0"),
-    ("6", "-3", "0"),
-    ("0", "5", "0"),
-    ("0", "-5", "0"),
-    ("1", "0", "divided by zero"),
-    ("-1", "0", "divided by zero"),
-    ("-5", "1", "0"),
-    ("3", "7", "3"),
-    ("-3", "7", "4"),
-    ("-999999999999999", "2", "1"),
-    ("999999999999999", "-2", "-1"),
-    ("1", "999999999999999", "1"),
-    ("-1", "999999999999999", "999999999999998"),
-    ("1", "-999999999999999", "-999999999999998"),
-    ("-1", "-999999999999999", "-1"),
-    ("-999999999999999", "999999999999998", "999999999999997"),
-    ("999999999999999", "-999999999999998", "-999999999999997"),
-];
-
-// A text that is read, and the text of the number.
-static TEXTS: [(&str, &str); 18] = [
-    ("1.50", "1.5"),
-    ("007", "7"),
-    ("-0", "0"),
-    ("-0.0", "0.0"),
-    ("1e3", "1000.0"),
-    ("5.", "5.0"),
-    ("-.5", "-0.5"),
-    ("1e-9", "0.000000001"),
-    ("-1e-9", "-0.000000001"),
-    ("100", "100"),
-    ("-100", "-100"),
-    ("0.1", "0.1"),
-    ("0.10000000", "0.1"),
-    ("12.000000340", "12.00000034"),
-    ("999999999999999", "999999999999999"),
-    ("-999999999999999.999999999", "-999999999999999.999999999"),
-    ("0.9999999999", "1.0"),
-    ("-1e-30", "0.0"),
-];
-
 /// The remainder, where both numbers are whole.
 fn remainder(left: Fixed, right: Fixed) -> Result<Fixed, NumberError> {
     if !left.whole {
@@ -272,7 +174,7 @@ fn answer(operator: Operator, left: &str, right: &str) -> Result<Fixed, NumberEr
 }
 
 /// The text of a number, or of why there is none.
-fn shown(alloc: Global, answer: Result<Fixed, NumberError>) -> Result<Text, NoMemory> {
+pub fn shown(alloc: Global, answer: Result<Fixed, NumberError>) -> Result<Text, NoMemory> {
     match answer {
         Ok(number) => number.text(alloc),
         Err(NumberError::NumberForm) => Text::from_str(alloc, "no number"),
@@ -282,7 +184,7 @@ fn shown(alloc: Global, answer: Result<Fixed, NumberError>) -> Result<Text, NoMe
 }
 
 /// Sees that an operator gives this text.
-fn gives(
+pub fn gives(
     rt: &impl Abort,
     alloc: Global,
     operator: Operator,
@@ -292,13 +194,6 @@ fn gives(
 ) -> Result<(), NoMemory> {
     let text = shown(alloc, answer(operator, left, right))?;
     assert!(rt; text.as_str() == want, "{left} and {right}");
-    Ok(())
-}
-
-/// Sees that a number that is read has this text.
-fn reads_as(rt: &impl Abort, alloc: Global, read: &str, want: &str) -> Result<(), NoMemory> {
-    let text = shown(alloc, Fixed::read(read))?;
-    assert!(rt; text.as_str() == want, "at {read}");
     Ok(())
 }
 
@@ -322,30 +217,6 @@ fn differences_of_numbers(rt: HostRuntime) -> Result<(), Fail> {
 fn products_of_numbers(rt: HostRuntime) -> Result<(), Fail> {
     for (left, right, want) in PRODUCTS.iter() {
         gives(&rt, rt.alloc(), Operator::Mul, left, right, want)?;
-    }
-    Ok(())
-}
-
-#[test]
-fn quotients_of_numbers(rt: HostRuntime) -> Result<(), Fail> {
-    for (left, right, want) in QUOTIENTS.iter() {
-        gives(&rt, rt.alloc(), Operator::Div, left, right, want)?;
-    }
-    Ok(())
-}
-
-#[test]
-fn remainders_of_numbers(rt: HostRuntime) -> Result<(), Fail> {
-    for (left, right, want) in REMAINDERS.iter() {
-        gives(&rt, rt.alloc(), Operator::Rem, left, right, want)?;
-    }
-    Ok(())
-}
-
-#[test]
-fn texts_of_what_is_read(rt: HostRuntime) -> Result<(), Fail> {
-    for (read, want) in TEXTS.iter() {
-        reads_as(&rt, rt.alloc(), read, want)?;
     }
     Ok(())
 }

@@ -10,10 +10,14 @@ mod arithmetic;
 #[cfg(test)]
 mod arithmetic_tests;
 mod counting;
+#[cfg(test)]
+mod division_tests;
 mod duplicate;
 mod files;
 mod fixed;
 mod fixed_text;
+#[cfg(test)]
+mod fixed_text_tests;
 mod lists;
 mod mem_inputs;
 mod mem_outputs;
