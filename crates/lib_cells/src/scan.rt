@@ -5,8 +5,8 @@ ghost use Rattle.std.specs.List.{prefix_len};
 ghost use Rattle.sdc_model.specs.LibertyTokens.{brackets_behind as depth_behind, is_bare_byte as bare_byte, is_sign as sign_byte, parts as parting_byte};
 ghost use Rattle.lib_cells.specs.Scan.{bare_bytes, is_no_quote};
 
-/// Whether a byte parts tokens: a space, a tab, a carriage return or a newline.
-fn parts(byte: u8) -> bool
+/// Whether a byte parts tokens, and words within one: a space, a tab, a carriage return or a newline.
+pub fn parts(byte: u8) -> bool
     ensures { result ≡ parting_byte byte }
 {
     byte == b' ' || byte == b'\t' || byte == b'\r' || byte == b'\n'

@@ -2,17 +2,10 @@
 
 ghost use Rattle.std.specs.Prelude.{◌≡◌, ◌++◌, [], ◌∷◌, IfOk, OnOk};
 ghost use Rattle.sdc_model.specs.LibertyCells as liberty;
-ghost use Rattle.sdc_model.specs.LibertyTokens.{parts};
 
+use crate::scan::parts;
 use sdc_base::{List, NoMemory};
 use std::alloc::Global;
-
-/// Whether a byte parts words: a space, a tab, a carriage return or a newline.
-fn parts(byte: u8) -> bool
-    ensures { result ≡ parts byte }
-{
-    byte == b' ' || byte == b'\t' || byte == b'\r' || byte == b'\n'
-}
 
 /// Adds a word that ends, if it has begun. The one error is want of memory.
 fn end_word(words: &mut List<List<u8>>, word: List<u8>) -> Result<(), NoMemory>
