@@ -1,17 +1,8 @@
 //! Texts of netlists that are refused for what they name, each with its line and its fault as a reader of the rules counts
 //! them, and texts beside them that are taken.
 
-use crate::refused::refused_text;
+use crate::refused::all_refused;
 use sdc_model::VerilogKind;
-use std::alloc::Global;
-use std::process::Abort;
-
-/// Sees that texts are refused on these lines with these faults, or taken where the line is 0.
-fn all_refused(rt: &impl Abort, alloc: Global, rows: &[(&str, u32, VerilogKind)]) {
-    for (text, line, kind) in rows {
-        refused_text(rt, alloc, text, *line, *kind);
-    }
-}
 
 /// Names and their declarations.
 static NAMES: [(&str, u32, VerilogKind); 36] = [

@@ -1,16 +1,6 @@
 //! Texts of netlists that break the grammar within statements, each with the line of its break, and texts beside them that do not.
 
-use crate::refused::refused_text;
-use sdc_model::VerilogKind;
-use std::alloc::Global;
-use std::process::Abort;
-
-/// Sees that texts break on these lines, or not where the line is 0.
-fn broken(rt: &impl Abort, alloc: Global, rows: &[(&str, u32)]) {
-    for (text, line) in rows {
-        refused_text(rt, alloc, text, *line, VerilogKind::VerilogForm);
-    }
-}
+use crate::refused::broken;
 
 /// What is connected and assigned.
 static OPERANDS: [(&str, u32); 43] = [

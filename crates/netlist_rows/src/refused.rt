@@ -23,6 +23,20 @@ pub fn refused(rt: &impl Abort, alloc: Global, bytes: &[u8], line: u32, kind: Ve
 }
 
 /// Sees that a text is refused on a line with a fault, or taken where the line is 0.
-pub fn refused_text(rt: &impl Abort, alloc: Global, text: &str, line: u32, kind: VerilogKind) {
+fn refused_text(rt: &impl Abort, alloc: Global, text: &str, line: u32, kind: VerilogKind) {
     refused(rt, alloc, text.as_bytes(), line, kind);
+}
+
+/// Sees that texts break on these lines, or not where the line is 0.
+pub fn broken(rt: &impl Abort, alloc: Global, rows: &[(&str, u32)]) {
+    for (text, line) in rows {
+        refused_text(rt, alloc, text, *line, VerilogKind::VerilogForm);
+    }
+}
+
+/// Sees that texts are refused on these lines with these faults, or taken where the line is 0.
+pub fn all_refused(rt: &impl Abort, alloc: Global, rows: &[(&str, u32, VerilogKind)]) {
+    for (text, line, kind) in rows {
+        refused_text(rt, alloc, text, *line, *kind);
+    }
 }

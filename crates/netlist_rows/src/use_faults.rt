@@ -1,17 +1,8 @@
 //! Texts of netlists that are refused for what they use, each with its line and its fault as a reader of the rules counts
 //! them, and texts beside them that are taken.
 
-use crate::refused::{refused, refused_text};
+use crate::refused::{all_refused, refused};
 use sdc_model::VerilogKind;
-use std::alloc::Global;
-use std::process::Abort;
-
-/// Sees that texts are refused on these lines with these faults, or taken where the line is 0.
-fn all_refused(rt: &impl Abort, alloc: Global, rows: &[(&str, u32, VerilogKind)]) {
-    for (text, line, kind) in rows {
-        refused_text(rt, alloc, text, *line, *kind);
-    }
-}
 
 /// What is used of nets, and the order of faults.
 static USES: [(&str, u32, VerilogKind); 45] = [
