@@ -18,7 +18,7 @@ use Rattle.sdc_cli.specs.ReportTree.{report_bytes}
 abbrev pub merged_text : Merged → List ℕ
 merged_text merged = printed_file empty_design merged.mode
 
--- a text, read as a clock file, says a mode, apart from lines
+-- a text, read as a mode file, says a mode, apart from lines
 abbrev pub SaysAgain : Mode → List ℕ → Type 0
 SaysAgain mode text = (said : Mode) × SaysMode text (Ok said) × (without_lines said ≡ without_lines mode)
 

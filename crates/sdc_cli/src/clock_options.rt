@@ -15,8 +15,8 @@ use sdc_model::{Clock, SdcKind, Value, Wave};
 use std::alloc::Global;
 use std::marker::Model;
 
-/// The most clocks of a file.
-const MOST_CLOCKS: usize = 16384;
+/// The most clocks of a file, and of all modes of a merge.
+pub(crate) const MOST_CLOCKS: usize = 16384;
 
 /// The options of a clock that are given, and the option whose value is the next word. Contracts see `ClockOptions`.
 #[derive(Drop)]

@@ -5,13 +5,11 @@ ghost use Rattle.sdc_model.specs.EdgesText.{Appends, AreReports, IsReport, AreLi
 ghost use Rattle.sdc_model.specs.Relation.{IsRelation};
 ghost use Rattle.sdc_cli.specs.LineParts.{front_text, line_rest};
 
+use crate::waveforms::NANOSECOND;
 use clock_tree::relation;
 use sdc_base::{Duplicate, List, NoMemory, Text, TimeBuffer};
 use sdc_model::{Clock, Edge, Form, Mode, Relation, TimedEdge};
 use std::alloc::Global;
-
-/// Femtoseconds in a nanosecond, the unit of the report.
-const NANOSECOND: i64 = 1_000_000;
 
 /// The reports of files, of which these are the modes, one behind the other.
 pub fn report_text(alloc: Global, files: &[Text], modes: &[Mode]) -> Result<Vec<u8>, NoMemory>

@@ -6,6 +6,7 @@ ghost use Rattle.sdc_cli.specs.Steps.{ReadsMode, ReadsModes, StopsAt, StopsReadi
 ghost use Rattle.sdc_model.specs.PlainViews.{clocks_in};
 ghost use Rattle.sdc_model.specs.PrintedFile.{ArePrintableClocks, ModesArePrintable};
 
+use crate::clock_options::MOST_CLOCKS;
 use crate::mode_file::read_mode;
 use sdc_base::{Inputs, List, ReadStop, Stop, Text, read_all};
 use sdc_model::{CommandLine, Fault, Kind, Mode, Status};
@@ -45,7 +46,7 @@ fn most_clocks(line: &CommandLine) -> usize
 {
     match line {
         CommandLine::Edges(_) => 1024,
-        CommandLine::Merge(_, _) => 16384,
+        CommandLine::Merge(_, _) => MOST_CLOCKS,
     }
 }
 

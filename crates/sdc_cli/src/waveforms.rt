@@ -12,8 +12,8 @@ use sdc_base::{Fixed, NoMemory, Text};
 use sdc_model::Wave;
 use std::alloc::Global;
 
-/// Femtoseconds in a nanosecond, the unit of a clock file.
-const NANOSECOND: i64 = 1_000_000;
+/// Femtoseconds in a nanosecond, the unit of a mode file and of the report of `edges`.
+pub(crate) const NANOSECOND: i64 = 1_000_000;
 
 /// The shortest period.
 const SHORTEST_PERIOD: u64 = 2;
