@@ -1,4 +1,4 @@
-//! `edges` over clock files.
+//! `edges` over mode files.
 
 use crate::answers::{has_stopped, has_written, is_usage, names, out_of_profile, stops};
 use crate::runs::{Fails, NO_FAILS, Outcome, is_proper_front, outcome_of};
