@@ -7,8 +7,10 @@ mod designs;
 #[cfg(test)]
 mod drivers;
 #[cfg(test)]
-mod faults;
+mod instance_faults;
 #[cfg(test)]
 mod limits;
+#[cfg(test)]
+mod net_faults;
 #[cfg(test)]
 mod shown;
