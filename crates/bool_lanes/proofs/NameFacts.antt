@@ -1,9 +1,11 @@
 -- The names of a cell: found by their places, and known to be no inputs.
 use Rattle.std.proofs.Common.{◌≡◌, ◌∙◌, ◌+◌, ◌<◌, ◌≤◌, ◌||◌, ℕ, Bool, true, false, cond, List, [], ◌∷◌, drop, get_or, length, Some, None, refl, sym, ap, subst, arith, nat_le, nat_lt, not, String}
+use Rattle.std.proofs.Math.Bool.{or-false}
 use Rattle.std.proofs.lemmas.Bool.Decides.{nat_tests}
 use Rattle.std.proofs.lemmas.Map.Text.{hash_set_updates_text}
 use Rattle.std.specs.Prelude.{string_bytes, string_eq}
 use Rattle.indexmap.specs.IndexSet.{IndexSet, Updates, contains_text}
+use Rattle.sdc_base.proofs.CaseFacts.{or_turned}
 use Rattle.sdc_model.specs.FunctionMeaning.{inputs_in, is_other}
 use Rattle.sdc_model.specs.FunctionText.{place_in}
 use Rattle.sdc_model.specs.Words.{same_text}
@@ -89,21 +91,12 @@ added old new key own updates named name =
       or_is true old = refl
       or_is false old = refl
 
-or_behind : (t old behind : Bool) → ((t || old) || behind) ≡ (old || (t || behind))
-or_behind true true behind = refl
-or_behind true false behind = refl
-or_behind false old behind = refl
-
 pub set_more : {A S : Type 0} (old new : IndexSet (String A) S) (own : List ℕ) (rest names : List (List ℕ)) → SetSoFar old (own ∷ rest) names
     → AddsName old new own → SetSoFar new rest names
 set_more old new own rest names so_far adds name =
     ap (λ t. t || is_among rest name) (adds name)
-    ∙ (or_behind (same_text own name) (contains_text old name) (is_among rest name)
+    ∙ (or_turned (same_text own name) (contains_text old name) (is_among rest name)
     ∙ so_far name)
 
-or_false : (t : Bool) → (t || false) ≡ t
-or_false true = refl
-or_false false = refl
-
 pub set_all : {A S : Type 0} (set : IndexSet (String A) S) (names : List (List ℕ)) → SetSoFar set [] names → HasNames set names
-set_all set names so_far name = sym (or_false (contains_text set name)) ∙ so_far name
+set_all set names so_far name = sym (or-false (contains_text set name)) ∙ so_far name
