@@ -13,6 +13,7 @@ use Rattle.std.proofs.lemmas.Option.{same_Some, slice_get_within}
 use Rattle.std.proofs.lemmas.List.{length_push, take_more, take_all, length-take-le}
 use Rattle.timing_types.specs.declared.identities.Identity.{Identity}
 use Rattle.timing_types.specs.contracts.identities.IdentityOrd.TheImpl.Laws as identity_laws
+use Rattle.sdc_model.proofs.ListFacts.{element_at}
 use Rattle.clock_map.specs.Numbering.{RisesTo, AreNumbers, Numbers, identity_cmp}
 use Rattle.clock_map.proofs.Exact.{identity_exact}
 
@@ -45,12 +46,6 @@ pair_cases xs ys a b p x y same e f =
         | inr new' ↦ inr (new.1, new'.1)
       ]
     ]
-
--- the element at a place within a list
-pub element_at : {X : Type 0} (xs : List X) (p : ℕ) → p < length xs → (x : X) × (slice_get xs p ≡ Some x)
-element_at [] p within = absurd (omega arith)
-element_at (x ∷ xs) zero within = (x, refl)
-element_at (x ∷ xs) (suc p) within = element_at xs p (omega arith)
 
 -- ---- rising numbers
 

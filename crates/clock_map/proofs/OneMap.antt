@@ -13,8 +13,8 @@ use Rattle.timing_types.specs.declared.views.ClockMap.{ClockMap}
 use Rattle.timing_types.specs.declared.views.View.{View}
 use Rattle.sdc_model.specs.ClockIdentity.{master_at, HasDepth, HasDepthAt, names_of, numbered_name, IsFreeName, IsMergedName, clock_with, standings_of, identities_of, IsMerged, IsClockMap}
 use Rattle.sdc_model.specs.PlainViews.{ArePrimary, ModesArePrimary, clock_count}
+use Rattle.sdc_model.proofs.ListFacts.{element_at}
 use Rattle.clock_map.proofs.MergedLists.{EachMerged}
-use Rattle.clock_map.proofs.NumberLists.{element_at}
 use Rattle.clock_map.proofs.OneNumbering.{AppearInOrder, AreAlike, numbers_once, count_once}
 use Rattle.clock_map.proofs.PlainMaps.{identities_plain, no_master_among}
 use Rattle.clock_map.proofs.RowLists.{FitsMode}

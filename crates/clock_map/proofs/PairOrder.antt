@@ -1,13 +1,14 @@
 -- Which pairs stand in the rows, and in what order.
-use Rattle.std.proofs.Common.{◌≡◌, ℕ, zero, suc, ◌+◌, ◌-◌, ◌<◌, ◌≤◌, Bool, true, false, List, [], ◌∷◌, ◌++◌, length, Some, refl, sym, ap, ◌∙◌, subst, inl, inr, arith}
-use Rattle.std.specs.Prelude.{◌⊎◌, slice_get}
+use Rattle.std.proofs.Common.{◌≡◌, ℕ, zero, suc, ◌+◌, ◌-◌, ◌<◌, ◌≤◌, Bool, true, false, List, [], ◌++◌, Some, refl, sym, ap, ◌∙◌, subst, inl, inr, arith}
+use Rattle.std.specs.Prelude.{slice_get}
 use Rattle.std.specs.List.{Contains, list_any}
 use Rattle.std.proofs.lemmas.Bool.{false≢true, cases_lt, false_from_ne_true}
 use Rattle.std.proofs.lemmas.List.Elements.{Contains-append_left, Contains-append_right, Contains-append_cases, Contains-push, Contains-push_cases}
-use Rattle.std.proofs.lemmas.Option.{slice_get_within, get_or_from_slice_get}
+use Rattle.std.proofs.lemmas.Option.{slice_get_within}
 use Rattle.timing_types.specs.declared.clocks.Pair.{Pair}
 use Rattle.timing_types.specs.declared.views.View.{View}
 use Rattle.sdc_model.specs.Exclusive.{ComesBefore, AreExclusivePairs}
+use Rattle.sdc_model.proofs.ListFacts.{contains_at, get_append}
 use Rattle.clock_map.specs.declared.timings.Timing.{Timing}
 use Rattle.clock_map.specs.Timings.{AreTimings, lets_time, pair_unless, row_from, row, rows_from}
 use Rattle.clock_map.proofs.ExclusiveLists.{some_says, some_shows}
@@ -113,29 +114,16 @@ rows_have timings count a (suc n) x y low high rises within e =
 abbrev InOrder : List Pair → Type 0
 InOrder xs = (p q : ℕ) (x y : Pair) → p < q → slice_get xs p ≡ Some x → slice_get xs q ≡ Some y → ComesBefore x y
 
-get_append_cases : {X : Type 0} (xs ys : List X) (p : ℕ) (x : X) → slice_get (xs ++ ys) p ≡ Some x
-    → (slice_get xs p ≡ Some x) ⊎ ((length xs ≤ p) × (slice_get ys (p - length xs) ≡ Some x))
-get_append_cases [] ys p x e = inr (omega arith, ap (slice_get ys) (omega arith) ∙ e)
-get_append_cases (z ∷ xs) ys zero x e = inl e
-get_append_cases (z ∷ xs) ys (suc p) x e =
-    elim (get_append_cases xs ys p x e) [
-      | inl old ↦ inl old
-      | inr new ↦ inr (omega (arith, new.0), ap (slice_get ys) (omega (arith, new.0)) ∙ new.1)
-    ]
-
-has_element : {X : Type 0} (xs : List X) (p : ℕ) (x : X) → slice_get xs p ≡ Some x → Contains xs x
-has_element xs p x e = (p, slice_get_within xs p x e, get_or_from_slice_get xs p x x e)
-
 in_order_append : (xs ys : List Pair) → InOrder xs → InOrder ys → ((x y : Pair) → Contains xs x → Contains ys y → ComesBefore x y) → InOrder (xs ++ ys)
 in_order_append xs ys first second across p q x y less e f =
-    elim (get_append_cases xs ys p x e) [
-      | inl old ↦ elim (get_append_cases xs ys q y f) [
+    elim (get_append xs ys p x e) [
+      | inl old ↦ elim (get_append xs ys q y f) [
         | inl old' ↦ first p q x y less old old'
-        | inr new' ↦ across x y (has_element xs p x old) (has_element ys (q - length xs) y new'.1)
+        | inr new' ↦ across x y (contains_at xs p x old) (contains_at ys new'.0 y new'.2)
       ]
-      | inr new ↦ elim (get_append_cases xs ys q y f) [
-        | inl old' ↦ let within = slice_get_within xs q y old' in absurd (omega (arith, new.0))
-        | inr new' ↦ second (p - length xs) (q - length xs) x y (omega (arith, new.0, new'.0)) new.1 new'.1
+      | inr new ↦ elim (get_append xs ys q y f) [
+        | inl old' ↦ let within = slice_get_within xs q y old' in absurd (omega (arith, less, within, new.1))
+        | inr new' ↦ second new.0 new'.0 x y (omega (arith, less, new.1, new'.1)) new.2 new'.2
       ]
     ]
 

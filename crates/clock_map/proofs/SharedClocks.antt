@@ -14,7 +14,7 @@ use Rattle.timing_types.specs.declared.identities.Standing.{Standing}
 use Rattle.sdc_model.specs.ClockIdentity.{merged_form, definition_of, standings_from, mode_standings, identity_among, identities_among, identities_of, IsClockMap}
 use Rattle.sdc_model.specs.PlainViews.{ArePrimary, ModesArePrimary, HaveWaves, without_line, HaveSameClocks}
 use Rattle.sdc_model.specs.Exclusive.{IsApart, AreApart}
-use Rattle.clock_map.proofs.NumberLists.{element_at}
+use Rattle.sdc_model.proofs.ListFacts.{element_at}
 use Rattle.clock_map.proofs.StandingLists.{form_stays}
 use Rattle.clock_map.proofs.PlainMaps.{length-from}
 use Rattle.clock_map.proofs.LawLists.{ranks_tell_apart}
