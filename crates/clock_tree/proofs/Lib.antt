@@ -1,4 +1,3 @@
 pub mod Divisor
 pub mod Gaps
-pub mod OneRelation
 pub mod Remainder
