@@ -5,6 +5,7 @@ use Rattle.std.specs.BTreeSet.{BTreeSet, Updates, contains}
 use Rattle.std.specs.Cmp.Lexicographic.{slice_cmp}
 use Rattle.std.specs.List.{list_any}
 use Rattle.std.specs.Ordering.{nat_cmp}
+use Rattle.sdc_base.proofs.CaseFacts.{cond_or}
 use Rattle.source_types.specs.declared.library_cells.LibCheck.{LibCheck}
 use Rattle.sdc_model.specs.Keys.{side_number}
 use Rattle.sdc_model.specs.LibertyArcs.{is_same_check, with_check}
@@ -64,17 +65,11 @@ has_key-push (other ∷ checks) check key =
     ap (λ t. same_text (check_key other) key || t) (has_key-push checks check key)
     ∙ or_behind (same_text (check_key other) key) (has_key checks key) (same_text (check_key check) key)
 
-added_step : (t old : Bool) → cond t true old ≡ (old || t)
-added_step true true = refl
-added_step true false = refl
-added_step false true = refl
-added_step false false = refl
-
 pub pushes_keys : (old new : BTreeSet (List ℕ)) (checks : List LibCheck) (check : LibCheck) → HasKeys old checks
     → Updates (slice_cmp nat_cmp) old new (check_key check) true → HasKeys new (checks ++ check ∷ [])
 pushes_keys old new checks check has updates key =
     updates.0 key
     ∙ (ap (λ t. cond t true (contains (slice_cmp nat_cmp) old key)) (is_eq-slice_cmp (check_key check) key)
-    ∙ (added_step (same_text (check_key check) key) (contains (slice_cmp nat_cmp) old key)
+    ∙ (cond_or (same_text (check_key check) key) (contains (slice_cmp nat_cmp) old key)
     ∙ (ap (λ t. t || same_text (check_key check) key) (has key)
     ∙ sym (has_key-push checks check key))))

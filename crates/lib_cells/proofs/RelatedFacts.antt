@@ -9,6 +9,7 @@ use Rattle.sdc_model.specs.LibertyCells.{NamedPin}
 use Rattle.sdc_model.specs.LibertyStatements.{Member, groups, last_value, members}
 use Rattle.sdc_model.specs.LibertyTiming.{timing_named}
 use Rattle.sdc_model.specs.Words.{same_text}
+use Rattle.sdc_model.proofs.ListFacts.{flat_map_same}
 use Rattle.bool_lanes.specs.NamedNumbers.{HasPlaces, number_at, place_if}
 use Rattle.lib_cells.specs.RelatedPins.{pin_if, related_all, related_in, related_word, related_words}
 use Rattle.bool_lanes.specs.declared.numbers.Numbers.{Numbers}
@@ -79,10 +80,6 @@ words_same places names others to said has (word ∷ words) =
     ∙ (ap (λ rs. related_word to (timing_named (last_value (codes "timing_type") said)) (last_value (codes "timing_sense") said) (place_if names word) ++ rs)
     (words_same places names others to said has words)
     ∙ word_step said to (place_in names word) (liberty.places_of names words) (nat_lt (place_in names word) (length names)))
-
-pub flat_map_same : {A B : Type 0} (f g : A → List B) → ((x : A) → f x ≡ g x) → (xs : List A) → flat_map f xs ≡ flat_map g xs
-flat_map_same f g same [] = refl
-flat_map_same f g same (x ∷ xs) = ap (λ ys. ys ++ flat_map f xs) (same x) ∙ ap (λ ys. g x ++ ys) (flat_map_same f g same xs)
 
 in_same : (places : Numbers) (names others : List (List ℕ)) (to : ℕ) → HasPlaces places (names ++ others) → (timing : Member)
     → related_in places (length names) to timing ≡ liberty.related_in names to timing

@@ -146,17 +146,14 @@ gap_cases text (suc n) utf8 is =
 pub gap_cuts : (text : List ℕ) → IsUtf8 text → IsCharBoundary text (prefix_len parts text)
 gap_cuts text utf8 = gap_cases text (prefix_len parts text) utf8 refl
 
-cut_behind : (text : List ℕ) (at : ℕ) → IsUtf8 text → at < length text → get_or text at 0 < 128 → IsCharBoundary text (at + 1)
-cut_behind text at utf8 inside small = IsCharBoundary-after_ascii text at utf8 inside small
-
 pub quote_end_cuts : (text : List ℕ) → IsUtf8 text → prefix_len is_no_quote text < length text → IsCharBoundary text (prefix_len is_no_quote text + 1)
-quote_end_cuts text utf8 inside = cut_behind text (prefix_len is_no_quote text) utf8 inside (byte_quotes (get_or text (prefix_len is_no_quote text) 0) (prefix_stop is_no_quote text inside))
+quote_end_cuts text utf8 inside = IsCharBoundary-after_ascii text (prefix_len is_no_quote text) utf8 inside (byte_quotes (get_or text (prefix_len is_no_quote text) 0) (prefix_stop is_no_quote text inside))
 
 pub quote_cut : (text : List ℕ) → IsUtf8 text → 0 < length text → get_or text 0 0 ≡ 34 → IsCharBoundary text 1
-quote_cut text utf8 some is = cut_behind text 0 utf8 some (omega (arith, is))
+quote_cut text utf8 some is = IsCharBoundary-after_ascii text 0 utf8 some (omega (arith, is))
 
 pub sign_cut : (text : List ℕ) → IsUtf8 text → 0 < length text → is_bare_byte 0 (get_or text 0 0) ≡ false → IsCharBoundary text 1
-sign_cut text utf8 some is = cut_behind text 0 utf8 some (byte_ends 0 (get_or text 0 0) is)
+sign_cut text utf8 some is = IsCharBoundary-after_ascii text 0 utf8 some (byte_ends 0 (get_or text 0 0) is)
 
 pub bare_some : (text : List ℕ) → 0 < length text → is_bare_byte 0 (get_or text 0 0) ≡ true → 0 < bare_bytes 0 text
 bare_some [] some is = absurd (omega (arith, some))
