@@ -1,5 +1,5 @@
 -- The set of exclusive pairs as it grows, and the list of its pairs.
-use Rattle.std.proofs.Common.{◌≡◌, ◌≢◌, ◌<◌, ◌||◌, ◌&&◌, ◌==◌, inl, inr, ℕ, Bool, true, false, cond, min, max, List, [], ◌∷◌, Result, Ok, Err, nat_lt, refl, sym, ◌∙◌, ap, arith}
+use Rattle.std.proofs.Common.{◌≡◌, ◌≢◌, ◌<◌, ◌||◌, ◌&&◌, ◌==◌, inl, inr, ℕ, Bool, true, false, cond, min, max, List, [], ◌∷◌, Result, Ok, Err, nat_lt, sym, ◌∙◌, ap, arith}
 use Rattle.std.proofs.Math.Bool.{and-false}
 use Rattle.std.proofs.lemmas.Bool.{and_from, and_parts, lt-ltb, ltb-true, or_cases, or_left, or_right}
 use Rattle.std.specs.BTreeMap.{is_at}
@@ -8,6 +8,7 @@ use Rattle.std.specs.List.{list_any, AllByRecursion}
 use Rattle.std.specs.List.Sorted.{IsStrictlySortedBy}
 use Rattle.std.specs.Result.{IfOk}
 use Rattle.std.specs.declared.cmp.Ordering.TheVariants.{Less}
+use Rattle.sdc_base.proofs.CaseFacts.{cond_or}
 use Rattle.timing_types.specs.declared.clocks.Pair.{Pair}
 use Rattle.sdc_model.specs.ClockFile.{pairs_apart}
 use Rattle.sdc_model.specs.ClockGroups.{Groups, all_set_apart, is_among, is_parted, pairs_from, exclusive_pairs}
@@ -17,17 +18,11 @@ use Rattle.sdc_cli.proofs.GroupSteps.{all_below}
 use Rattle.sdc_cli.proofs.RisingPairs.{pair_is_parted, pair_is_same, before_from_less}
 use Rattle.sdc_cli.proofs.PairLists.{from_sound, from_complete, rising_from}
 
-or_else : (t old : Bool) → cond t true old ≡ (old || t)
-or_else true true = refl
-or_else true false = refl
-or_else false true = refl
-or_else false false = refl
-
 -- one more pair, that of two different clocks
 pub HasMore-insert : (old new : BTreeSet Pair) (i j : ℕ) (pair : Pair) → i ≢ j → pair.first ≡ min i j → pair.second ≡ max i j
     → ((q : Pair) → contains pair_cmp new q ≡ cond (is_at (pair_cmp pair) q) true (contains pair_cmp old q)) → HasMore old new (parts i j)
 HasMore-insert old new i j pair different first second added q =
-    added q ∙ (ap (λ t. cond t true (contains pair_cmp old q)) (pair_is_parted i j pair q different first second) ∙ or_else (parts i j q) (contains pair_cmp old q))
+    added q ∙ (ap (λ t. cond t true (contains pair_cmp old q)) (pair_is_parted i j pair q different first second) ∙ cond_or (parts i j q) (contains pair_cmp old q))
 
 -- the pairs of a set, as those of its list
 rising_after : (p : Pair) (qs : List Pair) → AllByRecursion (λ q. pair_cmp p q ≡ Less) qs → AllAfter p qs

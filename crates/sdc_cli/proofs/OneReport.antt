@@ -4,7 +4,7 @@ use Rattle.timing_types.specs.declared.edge_times.Relation.{Relation}
 use Rattle.timing_types.specs.declared.edge_times.TimedEdge.{TimedEdge}
 use Rattle.timing_types.specs.declared.modes.Mode.{Mode}
 use Rattle.sdc_model.specs.EdgesText.{AreLines, AreLinesFrom, clock_edges, edge_line}
-use Rattle.clock_tree.proofs.OneRelation.{relation_once}
+use Rattle.sdc_model.proofs.RelationFacts.{same_relation}
 use Rattle.sdc_cli.specs.Laws.{HaveOneReport}
 
 -- two texts of one front piece and one rest are one
@@ -16,7 +16,7 @@ lines_from_once : (file : List ℕ) (launch : TimedEdge) (captures : List TimedE
     → AreLinesFrom file launch captures a → AreLinesFrom file launch captures b → a ≡ b
 lines_from_once file launch [] a b p q = p ∙ sym q
 lines_from_once file launch (capture ∷ captures) a b (r, rest, is, text, more) (s, last, same, other, others) =
-    let relation : r ≡ s = relation_once launch.time launch.period capture.time capture.period r s is same in
+    let relation : r ≡ s = same_relation launch.time launch.period capture.time capture.period r s is same in
     pieces a b (edge_line file launch capture r) (edge_line file launch capture s) rest last text other
     (ap (λ (x : Relation). edge_line file launch capture x) relation) (lines_from_once file launch captures rest last more others)
 
