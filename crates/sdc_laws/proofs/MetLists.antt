@@ -1,25 +1,19 @@
 -- Through lists that a walk meets it still meets when it goes on: the places on it stay.
-use Rattle.std.proofs.Common.{◌≡◌, ℕ, zero, suc, ◌≤◌, List, [], ◌∷◌, ◌++◌, subst, sym, inl, inr, arith}
+use Rattle.std.proofs.Common.{◌≡◌, ℕ, ◌≤◌, List, [], ◌∷◌, subst, sym, inl, inr, arith}
 use Rattle.std.specs.Prelude.{Some, reverse, slice_get, take}
 use Rattle.std.specs.List.{AllZip}
 use Rattle.std.proofs.lemmas.Bool.{cases_lt}
 use Rattle.std.proofs.lemmas.List.{reverse-append}
-use Rattle.std.proofs.lemmas.Option.{none-some}
 use Rattle.timing_types.specs.declared.constraints.Through.{Through}
 use Rattle.source_types.specs.declared.pins.Node.{Node}
 use Rattle.sdc_model.specs.Classes.{IsMostMet}
 use Rattle.sdc_model.specs.Matching.{AreMet, HasNodeAt, IsIn}
-
--- an item of a list is one of a longer list
-in_front : {X : Type 0} (xs ys : List X) (place : ℕ) (x : X) → slice_get xs place ≡ Some x → slice_get (xs ++ ys) place ≡ Some x
-in_front [] ys place x is = absurd (none-some x is)
-in_front (y ∷ xs) ys zero x is = is
-in_front (y ∷ xs) ys (suc place) x is = in_front xs ys place x is
+use Rattle.sdc_model.proofs.ListFacts.{front_at}
 
 -- a node of a walk stands at its place when the walk goes on
 still_there : (node : Node) (nodes : List Node) (place : ℕ) (other : Node) → HasNodeAt nodes place other → HasNodeAt (node ∷ nodes) place other
 still_there node nodes place other is =
-    subst (λ walk. slice_get walk place ≡ Some other) (sym (reverse-append (node ∷ []) nodes)) (in_front (reverse nodes) (node ∷ []) place other is)
+    subst (λ walk. slice_get walk place ≡ Some other) (sym (reverse-append (node ∷ []) nodes)) (front_at (reverse nodes) (node ∷ []) place other is)
 
 still_each : (node : Node) (nodes : List Node) (lists : List Through) (places : List ℕ)
     → AllZip (λ list place. (met : Node) × HasNodeAt nodes place met × IsIn list met) lists places

@@ -1,8 +1,7 @@
 -- A path has one limit on a side: its clocks, their waves, the relation of their edges and the winners are each one.
-use Rattle.std.proofs.Common.{◌≡◌, ◌∙◌, ℕ, List, Option, Some, None, refl, sym, ap, subst, arith}
+use Rattle.std.proofs.Common.{◌≡◌, ◌∙◌, ℕ, List, Option, Some, None, refl, sym, ap, subst}
 use Rattle.std.specs.Prelude.{ℤ, ◌+ℤ◌}
 use Rattle.std.specs.Option.{option_map}
-use Rattle.std.proofs.lemmas.Int.{ints}
 use Rattle.std.proofs.lemmas.Option.{same_Some}
 use Rattle.timing_types.specs.declared.clocks.Clock.{Clock}
 use Rattle.timing_types.specs.declared.clocks.Wave.{Wave}
@@ -16,25 +15,12 @@ use Rattle.source_types.specs.declared.pins.Side.TheVariants.{Setup}
 use Rattle.sdc_model.specs.Analysis.{Analysis}
 use Rattle.sdc_model.specs.Limit.{adjustment, base_relation, changed_relation, edge_time, IsLimit, MulticycleMatch, setup_move, winning}
 use Rattle.sdc_model.specs.Matching.{MatchesAt}
-use Rattle.sdc_model.specs.Relation.{IsHold, IsRelation, IsSetup}
+use Rattle.sdc_model.specs.Relation.{IsRelation}
 use Rattle.sdc_model.specs.Timed.{HasLimit}
 use Rattle.sdc_model.specs.TimingPath.{Ends}
 use Rattle.sdc_model.specs.Winner.{WinnerIs}
+use Rattle.sdc_model.proofs.RelationFacts.{same_relation}
 use Rattle.sdc_laws.proofs.OneWinner.{one_winner}
-
--- ---- relations
-
-same_setup : (a p b q d e : ℤ) → IsSetup a p b q d → IsSetup a p b q e → d ≡ e
-same_setup a p b q d e g h = let le = g.2 e h.0 h.1 in let ge = h.2 d g.0 g.1 in omega (arith, ints)
-
-same_hold : (a p b q d e : ℤ) → IsHold a p b q d → IsHold a p b q e → d ≡ e
-same_hold a p b q d e g h = let ge = g.2 e h.0 h.1 in let le = h.2 d g.0 g.1 in omega (arith, ints)
-
-same_relation : (a p b q : ℤ) (r s : Relation) → IsRelation a p b q r → IsRelation a p b q s → r ≡ s
-same_relation a p b q r s g h =
-    let with_setup : ℤ → Relation = λ d. record { setup = d; hold = r.hold } in
-    let with_hold : ℤ → Relation = λ d. record { setup = s.setup; hold = d } in
-    ap with_setup (same_setup a p b q r.setup s.setup g.setup h.setup) ∙ ap with_hold (same_hold a p b q r.hold s.hold g.hold h.hold)
 
 -- ---- winners
 
