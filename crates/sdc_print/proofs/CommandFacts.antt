@@ -11,6 +11,7 @@ use Rattle.sdc_model.specs.Continued.{behind_gap, from_command, parting}
 use Rattle.sdc_model.specs.Row.{found, stops}
 use Rattle.sdc_model.specs.PrintedLine.{PrintedWord, spelled, words_text, line_text, lines_text}
 use Rattle.sdc_model.specs.PrintedCommands.{AreSpelled, AreSpelledLines, LineIsFirst, LinesAreCommands, word_of, command_of, commands_of}
+use Rattle.sdc_model.proofs.ByteFacts.{gap_nil}
 use Rattle.sdc_print.proofs.PlainWords.{before_is}
 
 -- the words behind another one, each behind a blank
@@ -40,10 +41,6 @@ gap_newline : (rest : List ℕ) → behind_gap false (10 ∷ rest) ≡ 10 ∷ re
 unfolding behind_gap
 gap_newline rest = refl
 
-gap_none : behind_gap false [] ≡ []
-unfolding behind_gap
-gap_none = refl
-
 behind_blank : (text : List ℕ) (front : WordFront) → StandsWord text front → StandsWord (32 ∷ text) front
 behind_blank text front w = subst (λ (t : List ℕ). IsWordOf (opening t) t front) (sym (gap_blank text)) w
 
@@ -54,7 +51,7 @@ line_ends rest = record {
 }
 
 text_ends : Ends []
-text_ends = record { follows = refl; stands = subst (λ (t : List ℕ). IsWordOf (opening t) t (stops (Ok []))) (sym gap_none) refl }
+text_ends = record { follows = refl; stands = subst (λ (t : List ℕ). IsWordOf (opening t) t (stops (Ok []))) (sym gap_nil) refl }
 
 are_more_words : (words : List PrintedWord) (rest : List ℕ) → AreSpelled words → Ends rest → AreWords (map word_of words) (more_text words ++ rest) (Ok rest)
 are_more_words [] rest s e = e.stands
