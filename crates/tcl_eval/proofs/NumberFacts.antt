@@ -13,6 +13,7 @@ use Rattle.source_types.specs.declared.kinds.TclKind.TheVariants.{BadExpr}
 use Rattle.sdc_model.specs.Bytes.{begins_with, behind, is_digit}
 use Rattle.sdc_model.specs.ExpressionTokens.{begins_digits, begins_exponent, behind_decimals, behind_exponent, behind_number, behind_sign, malformed, number_front, number_token}
 use Rattle.sdc_model.specs.Row.{found, stops}
+use Rattle.sdc_model.proofs.ByteFacts.{digit_small}
 use Rattle.tcl_words.specs.Operands.{IsFront}
 use Rattle.tcl_words.specs.Spans.{LeadsTo}
 use Rattle.tcl_words.specs.Steps.{between}
@@ -59,9 +60,6 @@ same_rest : (text : List ℕ) (at to : ℕ) (rest other : List ℕ) → rest ≡
 same_rest text at to rest other e leads = subst (λ (t : List ℕ). LeadsTo text at to t) e leads
 
 -- ---- digits
-
-digit_small : (b : ℕ) → is_digit b ≡ true → b < 128
-digit_small b p = grind (arith, nat_tests)
 
 pub digits_lead : (text : List ℕ) (from at : ℕ) → RunTo is_digit text from at → (at < length text → is_digit (get_or text at 0) ≡ false) → LeadsTo text from at (behind is_digit (drop from text))
 digits_lead text from at run fails = record {
