@@ -179,7 +179,3 @@ reached_end rest_of text from at none r ends =
       within = r.moves.within;
       keeps = r.keeps;
     }
-
-pub gap_nil : behind_gap false [] ≡ []
-unfolding behind_gap
-gap_nil = refl

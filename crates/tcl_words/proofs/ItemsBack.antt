@@ -11,7 +11,7 @@ use Rattle.sdc_model.specs.ListItems.{AreItemPieces, AreItems, IsBracedItem, IsI
 use Rattle.sdc_model.specs.ListText.{in_braces, is_taken, item_text, list_text, more_items, needs_backslashes, needs_braces, plain_item, taken_as, with_backslashes}
 use Rattle.sdc_model.specs.Pieces as grammar
 use Rattle.sdc_model.specs.Row.{found, stops}
-use Rattle.tcl_words.proofs.ItemGaps.{parting_other}
+use Rattle.tcl_words.proofs.ItemGaps.{parting_nil, parting_other}
 use Rattle.tcl_words.proofs.TakenFacts.{item_plain as plain_is, item_taken as taken_is}
 use Rattle.tcl_words.proofs.TakenBack.{PiecesBack, RestBack, blank_back, end_back, item_back, no_newline_behind, not_continued, taken_itself, with_none, with_other, with_taken}
 
@@ -203,12 +203,8 @@ behind_blank : (place : List ℕ) → behind_parting (32 ∷ place) ≡ behind_p
 unfolding behind_parting
 behind_blank place = refl
 
-behind_none : behind_parting [] ≡ []
-unfolding behind_parting
-behind_none = refl
-
 ends_there : AreItems [] [] None
-ends_there = subst (λ (t : List ℕ). IsItem t (stops None)) (sym behind_none) refl
+ends_there = subst (λ (t : List ℕ). IsItem t (stops None)) (sym parting_nil) refl
 
 rows_back : (items : List (List ℕ)) → AreItems items (more_items items) None
 rows_back [] = ends_there

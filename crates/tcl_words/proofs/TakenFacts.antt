@@ -11,7 +11,7 @@ use Rattle.sdc_model.specs.ListText.{in_braces, is_taken, item_text, needs_backs
 use Rattle.tcl_words.specs.Steps.{between}
 use Rattle.tcl_words.specs.Taken.{IsPushed, UntakenTo, is_bare, untaken}
 use Rattle.tcl_words.proofs.PieceFacts.{front_between}
-use Rattle.tcl_words.proofs.TakenBack.{with_taken}
+use Rattle.tcl_words.proofs.TakenBack.{with_none, with_taken}
 use Rattle.tcl_words.proofs.RunFacts.{RunTo, drop_all, run_stops}
 
 -- ---- runs
@@ -55,10 +55,6 @@ with_run (b ∷ bs) = elim (cases_Bool (is_taken b)) [
   | inl p ↦ rw p (sym (with_taken b bs p))
   | inr p ↦ rw p (ap (λ (t : List ℕ). b ∷ t) (with_run bs))
 ]
-
-with_none : with_backslashes [] ≡ []
-unfolding with_backslashes
-with_none = refl
 
 run_is : (item : List ℕ) (from end : ℕ) → UntakenTo item from end → with_backslashes (drop from item) ≡ between item from end ++ with_backslashes (drop end item)
 run_is item from end run =

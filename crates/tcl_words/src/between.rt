@@ -50,7 +50,7 @@ fn gap_step(bytes: &[u8], at: usize) -> usize
 }
 
 /// The place behind the spaces and continued lines that stand at a place.
-#[tactic(auto, using(crate::proofs::GapFacts::reached_none, crate::proofs::GapFacts::reached_more, crate::proofs::GapFacts::reached_stays, crate::proofs::GapFacts::reached_end, crate::proofs::GapFacts::gap_nil))]
+#[tactic(auto, using(crate::proofs::GapFacts::reached_none, crate::proofs::GapFacts::reached_more, crate::proofs::GapFacts::reached_stays, crate::proofs::GapFacts::reached_end))]
 pub fn gap_end(bytes: &[u8], from: usize) -> usize
     requires { from ≤ length bytes.now }
     ensures { LeadsTo bytes.now from result (behind_gap false (drop from bytes.now)) }

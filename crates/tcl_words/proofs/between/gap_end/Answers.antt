@@ -1,6 +1,7 @@
 use Rattle.std.proofs.Common.{false}
 use Rattle.sdc_model.specs.Continued.{behind_gap}
-use Rattle.tcl_words.proofs.GapFacts.{gap_nil, reached_end}
+use Rattle.sdc_model.proofs.ByteFacts.{gap_nil}
+use Rattle.tcl_words.proofs.GapFacts.{reached_end}
 use Rattle.tcl_words.proofs.between.gap_end.Goals as goal
 
 pub returns : goal.returns
