@@ -1,6 +1,6 @@
 -- What stands between tokens, byte by byte.
 use Rattle.std.proofs.Common.{◌≡◌, ◌∙◌, ◌+◌, ◌<◌, ◌≤◌, ◌∷◌, ℕ, List, [], Option, None, Some, drop, get_or, length, refl, sym, ap, subst, arith}
-use Rattle.std.proofs.lemmas.List.{drop_more, length-drop}
+use Rattle.std.proofs.lemmas.List.{drop_all, drop_more}
 use Rattle.std.specs.Option.{option_map}
 use Rattle.sdc_model.specs.VerilogTokens as grammar
 use Rattle.verilog_net.specs.declared.gaps.Gap.{Gap}
@@ -39,13 +39,6 @@ gap_stays text from at now so_far less is =
     ∙ (sym (stays (gap_seen now) (get_or text at 0) (drop (at + 1) text) (sym is))
     ∙ (sym (ap (grammar.behind_gap (gap_seen now)) (drop_more text at 0 less)) ∙ so_far.same))
 
-nothing : (rest : List ℕ) → length rest ≡ 0 → rest ≡ []
-nothing [] e = refl
-nothing (b ∷ bs) e = absurd (omega arith)
-
-drop_all : (text : List ℕ) (at : ℕ) → length text ≤ at → drop at text ≡ []
-drop_all text at e = nothing (drop at text) (omega (arith, length-drop at text))
-
 end_gap : (now : grammar.Gap) → grammar.behind_gap now [] ≡ grammar.ended_gap now
 unfolding grammar.behind_gap
 end_gap now = refl
@@ -59,5 +52,5 @@ ended_rest text at gap.Closes o e is = rw is (ap (λ (t : List ℕ). Some t) e)
 
 pub gap_ends : (text : List ℕ) (from at : ℕ) (now : Gap) (o : Option ℕ) → GapSoFar text from at now → length text ≤ at → o ≡ option_map (λ rest. at) (grammar.ended_gap (gap_seen now)) → rest_seen text o ≡ grammar.behind_gap grammar.between (drop from text)
 gap_ends text from at now o so_far end is =
-    ended_rest text at now o (drop_all text at end) is
-    ∙ (sym (end_gap (gap_seen now)) ∙ (sym (ap (grammar.behind_gap (gap_seen now)) (drop_all text at end)) ∙ so_far.same))
+    ended_rest text at now o (drop_all at text end) is
+    ∙ (sym (end_gap (gap_seen now)) ∙ (sym (ap (grammar.behind_gap (gap_seen now)) (drop_all at text end)) ∙ so_far.same))

@@ -9,7 +9,7 @@ use Rattle.std.proofs.lemmas.List.Folds.{length-prefix_len}
 use Rattle.std.proofs.lemmas.List.Sums.{prefix_len-drop_yes, prefix_len-drop_no, prefix_len-drop_all}
 use Rattle.std.proofs.lemmas.Str.{IsCharBoundary-after_ascii, IsCharBoundary-before_ascii, IsCharBoundary-end}
 use Rattle.sdc_base.proofs.CaseFacts.{by_bool}
-use Rattle.sdc_model.specs.Bytes.{is_digit, is_letter}
+use Rattle.sdc_model.specs.Bytes.{is_letter}
 use Rattle.sdc_model.specs.VerilogConstants.{is_digits_byte, is_number_byte}
 use Rattle.sdc_model.specs.VerilogTokens.{is_blank, is_word_byte}
 use Rattle.verilog_net.specs.declared.runs.Run.{Run}
@@ -33,9 +33,6 @@ name_fits bytes at len within is = fits (λ b. not (is_blank b)) bytes at len wi
 
 letter_small : (b : ℕ) → is_letter b ≡ true → b < 128
 letter_small b h = grind (arith, nat_tests)
-
-digit_small : (b : ℕ) → is_digit b ≡ true → b < 128
-digit_small b h = grind (arith, nat_tests)
 
 word_small : (b : ℕ) → is_word_byte b ≡ true → b < 128
 word_small b h = grind (arith, nat_tests)
@@ -111,9 +108,6 @@ run_some run text at len within first is = omega (arith, is, prefix_len-drop_yes
 
 pub ascii_begins : (text : List ℕ) (at : ℕ) → at < length text → get_or text at 0 < 128 → IsCharBoundary text at
 ascii_begins text at within small = IsCharBoundary-before_ascii text at within small
-
-pub ascii_ends : (text : List ℕ) (at : ℕ) → IsUtf8 text → at < length text → get_or text at 0 < 128 → IsCharBoundary text (at + 1)
-ascii_ends text at utf8 within small = IsCharBoundary-after_ascii text at utf8 within small
 
 take_one : (b : ℕ) (bs : List ℕ) → take 1 (b ∷ bs) ≡ b ∷ []
 take_one b bs = refl

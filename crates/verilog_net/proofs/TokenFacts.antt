@@ -1,6 +1,6 @@
 -- Tokens in a row, and places in a text.
 use Rattle.std.proofs.Common.{◌≡◌, ◌∙◌, ◌+◌, ◌-◌, ◌<◌, ◌≤◌, ◌++◌, ◌∷◌, ℕ, List, [], Option, None, Some, append_assoc, drop, get_or, length, slice_get, take, refl, sym, ap, subst, arith}
-use Rattle.std.proofs.lemmas.List.{drop_more, length-drop, map-append}
+use Rattle.std.proofs.lemmas.List.{drop_all, drop_more, length-drop, map-append}
 use Rattle.std.proofs.lemmas.Option.{slice_get-map}
 use Rattle.std.specs.Option.{option_map}
 use Rattle.source_types.specs.declared.verilog_tokens.VerilogToken.{VerilogToken}
@@ -77,13 +77,6 @@ token_front text place behind begin line token lexed forward within first is see
           → ◌≡◌ {A = Front grammar.Token grammar.Place (Unit {0})} (found (record { at = p.at; line = p.line; kind = lexed.kind; text = lexed.text.now }) (grammar.place_of p (drop lexed.next text) lexed.base)) (grammar.token_here p wanted)
       as_lexed p text lexed wanted e = ap (grammar.token_here p) e
 
-nothing : (rest : List ℕ) → length rest ≡ 0 → rest ≡ []
-nothing [] e = refl
-nothing (b ∷ bs) e = absurd (omega arith)
-
-drop_all : (text : List ℕ) (at : ℕ) → length text ≤ at → drop at text ≡ []
-drop_all text at e = nothing (drop at text) (omega (arith, length-drop at text))
-
 -- a comment or an attribute that has no end
 pub unclosed_front : (text : List ℕ) (place behind : Place) (token : Token) (line : ℕ) → place.at < length text
     → token_seen token ≡ record { at = place.at; line = line; kind = kind.Other; text = [] }
@@ -91,7 +84,7 @@ pub unclosed_front : (text : List ℕ) (place behind : Place) (token : Token) (l
     → behind.at ≡ length text → behind.line ≡ line_after (take (length text - place.at) (drop place.at text)) place.line → behind.base ≡ None
     → front_seen text (Some (token, behind)) ≡ grammar.unclosed (place_seen text place)
 unclosed_front text place behind token line within seen last at then base =
-    let end : drop (length text) text ≡ [] = drop_all text (length text) (omega arith) in
+    let end : drop (length text) text ≡ [] = drop_all (length text) text (omega arith) in
     let len : length (drop place.at text) - 1 ≡ length text - 1 - place.at = omega (arith, within, length-drop place.at text) in
     let same : line ≡ last_line_of (drop place.at text) place.line = last ∙ ap (λ (n : ℕ). line_after (take n (drop place.at text)) place.line) (sym len) in
     let told : place_seen text behind ≡ record { text = drop (length text) text; at = length text; line = behind.line; base = None } =
@@ -112,7 +105,7 @@ front_is p rest e = ap (grammar.front_behind p) e
 
 pub no_front : (text : List ℕ) (place : Place) (begin : ℕ) → rest_seen text (Some begin) ≡ grammar.behind_gap grammar.between (drop place.at text) → begin ≡ length text → front_seen text None ≡ grammar.token_at (place_seen text place)
 no_front text place begin gap end =
-    ap (λ (t : List ℕ). grammar.front_behind (place_seen text place) (Some t)) (sym (drop_all text begin (omega (arith, end))))
+    ap (λ (t : List ℕ). grammar.front_behind (place_seen text place) (Some t)) (sym (drop_all begin text (omega (arith, end))))
     ∙ front_is (place_seen text place) (Some (drop begin text)) gap
 
 pub found_front : (text : List ℕ) (place : Place) (begin : ℕ) (step : Token × Place) → rest_seen text (Some begin) ≡ grammar.behind_gap grammar.between (drop place.at text)

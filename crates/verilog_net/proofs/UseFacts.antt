@@ -9,12 +9,13 @@ use Rattle.std.specs.Option.{is_some, option_to_list}
 use Rattle.sdc_base.proofs.CaseFacts.{by_bool}
 use Rattle.source_types.specs.declared.netlists.Bit.TheVariants as bits
 use Rattle.source_types.specs.declared.netlists.Range.{Range}
-use Rattle.sdc_model.specs.Ranges.{falling, from_to, indices, rising, span, width}
+use Rattle.sdc_model.specs.Ranges.{from_to, indices, span, width}
 use Rattle.sdc_model.specs.Verilog as spec
 use Rattle.sdc_model.specs.VerilogConstants as constants
 use Rattle.sdc_model.specs.VerilogNets as nets
 use Rattle.sdc_model.specs.VerilogSyntax as syntax
 use Rattle.sdc_model.specs.VerilogTokens as lexical
+use Rattle.sdc_model.proofs.RangeFacts.{indices_length, span_length}
 use Rattle.verilog_net.specs.declared.tokens.Token.{Token}
 use Rattle.verilog_net.specs.declared.names.Names.{Names}
 use Rattle.verilog_net.specs.declared.pieces.Piece.{Piece}
@@ -69,30 +70,13 @@ both_known all left right =
 
 -- ---- numbers of bits
 
-length_rising : (n count : ℕ) → length (rising n count) ≡ count
-length_rising n zero = refl
-length_rising n (suc count) = ap suc (length_rising (n + 1) count)
-
-length_falling : (n count : ℕ) → length (falling n count) ≡ count
-length_falling n zero = refl
-length_falling n (suc count) = ap suc (length_falling (n - 1) count)
-
-length_from_to : (left right : ℕ) → length (from_to left right) ≡ span left right
-length_from_to left right =
-    by_bool (λ t. length (if t then rising left ((right - left) + 1) else falling left ((left - right) + 1)) ≡ (if t then (right - left) + 1 else (left - right) + 1)) (nat_le left right)
-    (λ e. length_rising left ((right - left) + 1)) (λ e. length_falling left ((left - right) + 1))
-
-length_indices : (range : Option Range) → length (indices range) ≡ width range
-length_indices None = refl
-length_indices (Some range) = length-map (from_to range.left range.right) (λ i. Some i) ∙ length_from_to range.left range.right
-
 whole_len : (all : List syntax.Declared) (name : lexical.Token) (n : ℕ) → n ≡ width (nets.range_named all name.text) → n ≡ length (nets.piece_bits all (syntax.whole name))
 whole_len all name n is =
-    is ∙ (sym (length_indices (nets.range_named all name.text)) ∙ sym (length-map (indices (nets.range_named all name.text)) (nets.net_bit name.text)))
+    is ∙ (sym (indices_length (nets.range_named all name.text)) ∙ sym (length-map (indices (nets.range_named all name.text)) (nets.net_bit name.text)))
 
 part_len : (all : List syntax.Declared) (name : lexical.Token) (left right l r n : ℕ) → l ≡ left → r ≡ right → n ≡ span l r → n ≡ length (nets.piece_bits all (syntax.part name left right))
 part_len all name left right l r n left_is right_is is =
-    is ∙ (ap (λ (i : ℕ). span i r) left_is ∙ (ap (span left) right_is ∙ (sym (length_from_to left right) ∙ sym (length-map (from_to left right) (λ i. nets.net_bit name.text (Some i))))))
+    is ∙ (ap (λ (i : ℕ). span i r) left_is ∙ (ap (span left) right_is ∙ (sym (span_length left right) ∙ sym (length-map (from_to left right) (λ i. nets.net_bit name.text (Some i))))))
 
 length_low : (count n : ℕ) → length (constants.low_bits count n) ≡ count
 length_low zero n = refl

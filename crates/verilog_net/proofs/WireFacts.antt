@@ -5,7 +5,7 @@ use Rattle.std.proofs.lemmas.List.{append-nil, drop_all}
 use Rattle.indexmap.specs.IndexSet.{IndexSet}
 use Rattle.std.specs.List.{cons_option, filter_map}
 use Rattle.std.specs.Option.{option_to_list}
-use Rattle.sdc_base.proofs.CaseFacts.{by_bool}
+use Rattle.sdc_base.proofs.CaseFacts.{by_bool, or_turned}
 use Rattle.source_types.specs.declared.netlists.Wire.{Wire}
 use Rattle.sdc_model.specs.VerilogKinds.{is_among}
 use Rattle.sdc_model.specs.VerilogNets as spec
@@ -40,12 +40,6 @@ pub record NamesSoFar {A S : Type 0} (set : IndexSet (String A) S) (rest all : L
 
 pub no_names : {A S : Type 0} (set : IndexSet (String A) S) (all : List Token) → HasNames set [] → NamesSoFar set all all
 no_names set all has = record { listed = []; has = has; same = λ name. refl }
-
-or_turned : (a b c : Bool) → ((a || b) || c) ≡ (b || (a || c))
-or_turned true true c = refl
-or_turned true false c = refl
-or_turned false true c = refl
-or_turned false false c = refl
 
 or_false : (a : Bool) → a ≡ (a || false)
 or_false true = refl

@@ -106,7 +106,7 @@ pub fn name_at(text: &str, at: usize) -> &str
 }
 
 /// One ASCII byte of a text.
-#[tactic(auto, using(crate::proofs::RunFacts::ascii_begins, crate::proofs::RunFacts::ascii_ends, crate::proofs::RunFacts::one_byte))]
+#[tactic(auto, using(crate::proofs::RunFacts::ascii_begins, crate::proofs::RunFacts::one_byte))]
 pub fn byte_at(text: &str, at: usize) -> &str
     requires within { at < length text.now }
     requires ascii { slice_index text.now at < 128 }
