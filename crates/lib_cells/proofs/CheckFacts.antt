@@ -1,5 +1,6 @@
 -- Checks by what tells them apart: each stands once.
 use Rattle.std.proofs.Common.{◌≡◌, ◌∙◌, ◌||◌, ◌&&◌, ◌==◌, ℕ, Bool, true, false, cond, List, [], ◌∷◌, ◌++◌, refl, sym, ap}
+use Rattle.std.proofs.Math.Bool.{or-false, or_assoc}
 use Rattle.std.proofs.lemmas.Map.Text.{is_eq-slice_cmp}
 use Rattle.std.specs.BTreeSet.{BTreeSet, Updates, contains}
 use Rattle.std.specs.Cmp.Lexicographic.{slice_cmp}
@@ -48,22 +49,12 @@ pub pushes : (known : BTreeSet (List ℕ)) (checks : List LibCheck) (check : Lib
     → contains (slice_cmp nat_cmp) known (check_key check) ≡ false → checks ++ check ∷ [] ≡ with_check checks check
 pushes known checks check has e = sym (ap (λ t. cond t checks (checks ++ check ∷ [])) (known_same known checks check false has e))
 
-or_assoc : (a b : Bool) → (a || b) ≡ (b || a)
-or_assoc true true = refl
-or_assoc true false = refl
-or_assoc false true = refl
-or_assoc false false = refl
-
-or_behind : (x t s : Bool) → (x || (t || s)) ≡ ((x || t) || s)
-or_behind true t s = refl
-or_behind false t s = refl
-
 has_key-push : (checks : List LibCheck) (check : LibCheck) (key : List ℕ)
     → has_key (checks ++ check ∷ []) key ≡ (has_key checks key || same_text (check_key check) key)
-has_key-push [] check key = or_assoc (same_text (check_key check) key) false
+has_key-push [] check key = or-false (same_text (check_key check) key)
 has_key-push (other ∷ checks) check key =
     ap (λ t. same_text (check_key other) key || t) (has_key-push checks check key)
-    ∙ or_behind (same_text (check_key other) key) (has_key checks key) (same_text (check_key check) key)
+    ∙ sym (or_assoc (same_text (check_key other) key) (has_key checks key) (same_text (check_key check) key))
 
 pub pushes_keys : (old new : BTreeSet (List ℕ)) (checks : List LibCheck) (check : LibCheck) → HasKeys old checks
     → Updates (slice_cmp nat_cmp) old new (check_key check) true → HasKeys new (checks ++ check ∷ [])

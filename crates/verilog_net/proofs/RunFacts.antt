@@ -9,7 +9,6 @@ use Rattle.std.proofs.lemmas.List.Folds.{length-prefix_len}
 use Rattle.std.proofs.lemmas.List.Sums.{prefix_len-drop_yes, prefix_len-drop_no, prefix_len-drop_all}
 use Rattle.std.proofs.lemmas.Str.{IsCharBoundary-after_ascii, IsCharBoundary-before_ascii, IsCharBoundary-end}
 use Rattle.sdc_base.proofs.CaseFacts.{by_bool}
-use Rattle.sdc_model.specs.Bytes.{is_letter}
 use Rattle.sdc_model.specs.VerilogConstants.{is_digits_byte, is_number_byte}
 use Rattle.sdc_model.specs.VerilogTokens.{is_blank, is_word_byte}
 use Rattle.verilog_net.specs.declared.runs.Run.{Run}
@@ -30,9 +29,6 @@ pub name_fits : (bytes : List ℕ) (at len : ℕ) → at ≤ length bytes → le
 name_fits bytes at len within is = fits (λ b. not (is_blank b)) bytes at len within is
 
 -- ---- bytes of runs are ASCII
-
-letter_small : (b : ℕ) → is_letter b ≡ true → b < 128
-letter_small b h = grind (arith, nat_tests)
 
 word_small : (b : ℕ) → is_word_byte b ≡ true → b < 128
 word_small b h = grind (arith, nat_tests)
