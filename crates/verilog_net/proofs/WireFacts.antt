@@ -1,6 +1,7 @@
 -- Ports and nets, name by name.
 use Rattle.std.proofs.Common.{◌≡◌, ◌∙◌, ◌≤◌, ◌++◌, ◌∷◌, ℕ, Bool, true, false, List, [], Option, None, Some, String, append_assoc, drop, length, refl, sym, ap}
 use Rattle.std.specs.Prelude.{◌||◌, if◌then◌else◌}
+use Rattle.std.proofs.Math.Bool.{or-false}
 use Rattle.std.proofs.lemmas.List.{append-nil, drop_all}
 use Rattle.indexmap.specs.IndexSet.{IndexSet}
 use Rattle.std.specs.List.{cons_option, filter_map}
@@ -41,10 +42,6 @@ pub record NamesSoFar {A S : Type 0} (set : IndexSet (String A) S) (rest all : L
 pub no_names : {A S : Type 0} (set : IndexSet (String A) S) (all : List Token) → HasNames set [] → NamesSoFar set all all
 no_names set all has = record { listed = []; has = has; same = λ name. refl }
 
-or_false : (a : Bool) → a ≡ (a || false)
-or_false true = refl
-or_false false = refl
-
 pub one_name : {A S : Type 0} (set after : IndexSet (String A) S) (rest behind all : List Token) (token : Token) → NamesSoFar set rest all → rest ≡ token ∷ behind
     → ((listed : List (List ℕ)) → HasNames set listed → HasNames after (token.text.now ∷ listed)) → NamesSoFar after behind all
 one_name set after rest behind all token so_far here names_are = record {
@@ -58,7 +55,7 @@ one_name set after rest behind all token so_far here names_are = record {
 pub all_names : {A S : Type 0} (set : IndexSet (String A) S) (all : List Token) (i : ℕ) → NamesSoFar set (drop i all) all → length all ≤ i → HasNames set (texts (tokens_seen all))
 all_names set all i so_far end name =
     so_far.has name
-    ∙ (or_false (is_among so_far.listed name)
+    ∙ (sym (or-false (is_among so_far.listed name))
     ∙ (ap (λ (ts : List Token). is_among so_far.listed name || is_among (texts (tokens_seen ts)) name) (sym (drop_all i all end)) ∙ so_far.same name))
 
 -- ---- nets whose names are new
