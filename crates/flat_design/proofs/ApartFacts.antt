@@ -1,7 +1,8 @@
 -- Lists in which each thing is told apart from the others by a key.
-use Rattle.std.proofs.Common.{◌≡◌, ◌+◌, ◌⊎◌, inl, inr, ℕ, zero, suc, List, [], ◌∷◌, ◌++◌, map, length, take, slice_get, Option, Some, None, refl, sym, ◌∙◌, ap, arith}
+use Rattle.std.proofs.Common.{◌≡◌, ◌+◌, inl, inr, ℕ, zero, suc, List, [], ◌∷◌, ◌++◌, map, length, take, slice_get, Option, Some, None, refl, sym, ◌∙◌, ap, arith}
 use Rattle.std.proofs.lemmas.List.{length-append}
 use Rattle.std.specs.List.{cons_option, filter_map, flat_map}
+use Rattle.sdc_model.proofs.ListFacts.{get_append}
 
 -- two places with one key are one
 abbrev pub Apart : {X K : Type 0} → (X → K) → List X → Type 0
@@ -26,14 +27,6 @@ apart_cons key x xs rest new (suc i) zero y z at_i at_j same =
     let one : x ≡ z = cc in
     absurd (new i y at_i (ap key one ∙ sym same))
 apart_cons key x xs rest new (suc i) (suc j) y z at_i at_j same = let e = rest i j y z at_i at_j same in omega (arith, e)
-
--- where a thing of two lists stands
-pub get_append : {X : Type 0} (xs ys : List X) (n : ℕ) (x : X) → slice_get (xs ++ ys) n ≡ Some x
-    → (slice_get xs n ≡ Some x) ⊎ ((m : ℕ) × (n ≡ length xs + m) × (slice_get ys m ≡ Some x))
-get_append [] ys n x at = let e : n ≡ 0 + n = omega arith in inr (n, e, at)
-get_append (y ∷ xs) ys zero x at = inl at
-get_append (y ∷ xs) ys (suc n) x at =
-    elim (get_append xs ys n x at) [ inl front ↦ inl front | inr back ↦ inr (back.0, omega (arith, back.1), back.2) ]
 
 pub apart_append : {X K : Type 0} (key : X → K) (xs ys : List X) → Apart key xs → Apart key ys
     → ((i j : ℕ) (x y : X) → slice_get xs i ≡ Some x → slice_get ys j ≡ Some y → key x ≡ key y → ⊥) → Apart key (xs ++ ys)

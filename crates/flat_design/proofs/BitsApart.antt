@@ -10,10 +10,10 @@ use Rattle.sdc_model.specs.FlatNets.{FlatNet, NetBit, bit_of, nets_in, wire_nets
 use Rattle.sdc_model.specs.Instances.{Spot, spots_of}
 use Rattle.sdc_model.specs.Ranges.{from_to, indices, span}
 use Rattle.sdc_model.specs.WellFormedDesign.{AreDistinct}
+use Rattle.sdc_model.proofs.RangeFacts.{span_length}
 use Rattle.flat_design.specs.Hierarchy.{HaveDistinctNets}
 use Rattle.flat_design.specs.NetNumbers.{IsNumber}
 use Rattle.flat_design.proofs.ApartFacts.{Apart, apart_cons, apart_flat, apart_map, apart_none, get_flat, get_map}
-use Rattle.flat_design.proofs.CountFacts.{span_length}
 use Rattle.flat_design.proofs.PathsApart.{spots_apart}
 use Rattle.flat_design.proofs.RangeFacts.{down_at, down_within, map_at, up_at}
 

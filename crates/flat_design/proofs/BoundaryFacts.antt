@@ -18,6 +18,7 @@ use Rattle.sdc_model.specs.Instances.{Placed, Spot}
 use Rattle.sdc_model.specs.WellFormedNetlist.{IsBitOf, IsNetOfPort, IsWellFormedModule, linked}
 use Rattle.sdc_model.specs.Ranges.{width}
 use Rattle.sdc_model.specs.Words.{same_text}
+use Rattle.sdc_model.proofs.ListFacts.{all_at, contains_at, front_at}
 use Rattle.flat_design.specs.declared.feeds.FeedRow.{FeedRow}
 use Rattle.flat_design.specs.declared.hierarchy.Hierarchy.{Hierarchy}
 use Rattle.flat_design.specs.declared.layout.Outer.{Outer}
@@ -27,8 +28,8 @@ use Rattle.flat_design.specs.declared.terminals.Terminals.{Terminals}
 use Rattle.flat_design.specs.Layout.{IsPlaced}
 use Rattle.flat_design.specs.Tables.{IsTerminals}
 use Rattle.flat_design.proofs.HierarchyFacts.{one_at}
-use Rattle.flat_design.proofs.NumberFacts.{flat_at, front_at}
-use Rattle.flat_design.proofs.PlaceFacts.{all_at, all_from, contains_at}
+use Rattle.flat_design.proofs.NumberFacts.{flat_at}
+use Rattle.flat_design.proofs.PlaceFacts.{all_from}
 use Rattle.flat_design.proofs.PortFacts.{pair_across}
 use Rattle.flat_design.proofs.RowFacts.{rows_none}
 use Rattle.flat_design.proofs.TerminalFacts.{zip_at}

@@ -10,6 +10,7 @@ use Rattle.sdc_model.specs.FlatDesign.{FlatCell, port_pins}
 use Rattle.sdc_model.specs.FlatFaults.{HasBadPin, HasPinTwice, cell_pin_name, flat_pin_name, is_among}
 use Rattle.sdc_model.specs.Instances.{PlacedCell}
 use Rattle.sdc_model.specs.WellFormedDesign.{is_good_name}
+use Rattle.sdc_model.proofs.ListFacts.{element_at}
 use Rattle.flat_design.specs.declared.hierarchy.Hierarchy.{Hierarchy}
 use Rattle.flat_design.specs.declared.layout.CellRow.{CellRow}
 use Rattle.flat_design.specs.declared.name_marks.NameMarks.{NameMarks}
@@ -17,7 +18,6 @@ use Rattle.flat_design.specs.Hierarchy.{IsHierarchy, cell_name, cells_in, pins_o
 use Rattle.flat_design.specs.NamedFaults.{AreMarks, HasMark, HasUnnamed, Tells, flat_of}
 use Rattle.flat_design.proofs.CellPlaces.{cell_back, names_before, pin_named_at, pins_fit, row_says}
 use Rattle.flat_design.proofs.HierarchyFacts.{one_at}
-use Rattle.flat_design.proofs.PlaceFacts.{get_within}
 use Rattle.flat_design.proofs.RangeFacts.{map_at}
 
 -- ---- tests
@@ -112,7 +112,7 @@ pin_repeat design n cell marks at pin cell_is are pin_is =
 pub twice_marked : (design : Hierarchy) (n : ℕ) (cell : FlatCell) (marks : NameMarks) → slice_get (flat_of design).cells n ≡ Some cell
     → AreMarks (map flat_pin_name (pins_of_design design)) marks → HasMark marks.repeats cell.first (length cell.is.kind.pins) true → HasPinTwice (flat_of design) cell
 twice_marked design n cell marks cell_is are has =
-    let pin = get_within cell.is.kind.pins has.0 has.1 in (
+    let pin = element_at cell.is.kind.pins has.0 has.1 in (
       has.0,
       pin.0,
       pin.1,
@@ -141,7 +141,7 @@ pub bad_marked : (design : Hierarchy) (n : ℕ) (cell : FlatCell) (marks : NameM
     → HasUnnamed cell.is.kind.pins ⊎ HasMark marks.good cell.first (length cell.is.kind.pins) false → HasBadPin cell
 bad_marked design n cell marks cell_is are (inl has) = (has.0, has.1, has.2, inr has.3)
 bad_marked design n cell marks cell_is are (inr has) =
-    let pin = get_within cell.is.kind.pins has.0 has.1 in (
+    let pin = element_at cell.is.kind.pins has.0 has.1 in (
       has.0,
       pin.0,
       pin.1,

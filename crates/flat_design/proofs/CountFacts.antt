@@ -1,18 +1,17 @@
 -- Counts of bits, as far as a design may have.
-use Rattle.std.proofs.Common.{◌≡◌, ◌+◌, ◌-◌, ◌<◌, ℕ, zero, suc, min, List, [], ◌∷◌, map, length, take, get_or, Option, Some, None, inl, inr, refl, sym, ◌∙◌, ap, arith}
-use Rattle.std.proofs.lemmas.Bool.{cases_lt, cond-false, cond-true, le-leb, lt-leb}
+use Rattle.std.proofs.Common.{◌≡◌, ◌+◌, ◌<◌, ℕ, min, List, [], ◌∷◌, map, length, take, get_or, refl, ◌∙◌, ap, arith}
 use Rattle.std.proofs.lemmas.List.{length-map}
 use Rattle.std.proofs.lemmas.List.Concat.{length-flat_map}
 use Rattle.std.proofs.lemmas.List.Sums.{sum_by_more, sum_by-cons}
 use Rattle.std.specs.List.{sum_by}
 use Rattle.source_types.specs.declared.netlists.Module.{Module}
 use Rattle.source_types.specs.declared.netlists.Port.{Port}
-use Rattle.source_types.specs.declared.netlists.Range.{Range}
 use Rattle.source_types.specs.declared.netlists.Wire.{Wire}
 use Rattle.sdc_model.specs.FlatDesign.{port_pin, port_pins}
 use Rattle.sdc_model.specs.FlatNets.{nets_in, wire_nets}
 use Rattle.sdc_model.specs.Instances.{Spot}
-use Rattle.sdc_model.specs.Ranges.{falling, from_to, indices, rising, span, width}
+use Rattle.sdc_model.specs.Ranges.{indices, width}
+use Rattle.sdc_model.proofs.RangeFacts.{indices_length}
 use Rattle.flat_design.specs.Layout.{capped}
 
 -- one more term of a sum
@@ -22,27 +21,6 @@ count_more f xs i x count w within is same so_far =
     let more = sum_by_more f xs i x within in
     let own : f x ≡ f (get_or xs i x) = ap f is in
     omega (arith, more, own, same, so_far)
-
-rising_length : (n count : ℕ) → length (rising n count) ≡ count
-rising_length n zero = refl
-rising_length n (suc count) = let e = rising_length (n + 1) count in omega (arith, e)
-
-falling_length : (n count : ℕ) → length (falling n count) ≡ count
-falling_length n zero = refl
-falling_length n (suc count) = let e = falling_length (n - 1) count in omega (arith, e)
-
-pub span_length : (left right : ℕ) → length (from_to left right) ≡ span left right
-span_length left right =
-    elim (cases_lt right left) [
-      | inl high ↦ ap length (cond-false _ _ _ (lt-leb left right high))
-          ∙ (falling_length left ((left - right) + 1) ∙ sym (cond-false _ _ _ (lt-leb left right high)))
-      | inr low ↦ ap length (cond-true _ _ _ (le-leb left right low))
-          ∙ (rising_length left ((right - left) + 1) ∙ sym (cond-true _ _ _ (le-leb left right low)))
-    ]
-
-pub indices_length : (range : Option Range) → length (indices range) ≡ width range
-indices_length None = refl
-indices_length (Some range) = length-map (from_to range.left range.right) (λ (i : ℕ). Some i) ∙ span_length range.left range.right
 
 pub same_sum : {X : Type 0} (f g : X → ℕ) → ((x : X) → f x ≡ g x) → (xs : List X) → sum_by f xs ≡ sum_by g xs
 same_sum f g same [] = refl

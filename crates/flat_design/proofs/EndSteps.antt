@@ -16,9 +16,8 @@ use Rattle.flat_design.specs.Ends.{AreKept, AreSettled, IsSettled, SomeReturns, 
 use Rattle.flat_design.specs.Walk.{is_in}
 use Rattle.flat_design.proofs.EndFacts.{NextIs, contains_first}
 use Rattle.flat_design.proofs.EndMarks.{marked_as, open_weight, open_within, to_follow, weight}
-use Rattle.flat_design.proofs.MarkFacts.{marked_more, marks_as}
+use Rattle.flat_design.proofs.MarkFacts.{in_other, marked_more, marks_as}
 use Rattle.flat_design.proofs.SourceFacts.{leads_more}
-use Rattle.flat_design.proofs.WalkTurns.{in_other}
 
 -- ---- the path
 

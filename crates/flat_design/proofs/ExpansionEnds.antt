@@ -28,6 +28,7 @@ use Rattle.flat_design.proofs.ExpansionSteps.{Expanding, IsSmall, is_deep, small
 use Rattle.flat_design.proofs.PinCounts.{parts_le, pins_length}
 use Rattle.flat_design.proofs.RangeFacts.{map_at}
 use Rattle.flat_design.proofs.LeftOver.{IsOpen, Turned, below_first, below_from}
+use Rattle.flat_design.proofs.PlaceFacts.{take_none}
 
 -- ---- too large a design
 
@@ -122,10 +123,6 @@ finish modules library top layout e is =
     )
 
 -- ---- how it begins
-
-take_none : {X : Type 0} (xs : List X) → take 0 xs ≡ []
-take_none [] = refl
-take_none (x ∷ xs) = refl
 
 top_row : (modules : List Module) (body : Module) (t : ℕ) (row : SpotRow) → slice_get modules t ≡ Some body
     → row ≡ record { body = t; outer = None; first_net = 0 } → IsSpot modules (spots_of modules body) 0 row

@@ -7,6 +7,7 @@ use Rattle.std.proofs.lemmas.Slice.Zip.{AllZip-long}
 use Rattle.std.specs.List.{AllZip, Contains, flat_map}
 use Rattle.sdc_model.specs.FlatNets.{Feed, NetBit, Origin, bit_of, net_bit, nets_in, same_index, same_net, sources}
 use Rattle.sdc_model.specs.Words.{same_text}
+use Rattle.sdc_model.proofs.ListFacts.{contains_at}
 use Rattle.flat_design.specs.declared.feeds.FeedRow.{FeedRow}
 use Rattle.flat_design.specs.declared.feeds.Feeder.{Feeder}
 use Rattle.flat_design.specs.declared.hierarchy.Hierarchy.{Hierarchy}
@@ -16,7 +17,7 @@ use Rattle.flat_design.specs.NetNumbers.{IsNumber}
 use Rattle.flat_design.specs.Sources.{fed}
 use Rattle.flat_design.proofs.BitsApart.{number_once}
 use Rattle.flat_design.proofs.HierarchyFacts.{one_at}
-use Rattle.flat_design.proofs.PlaceFacts.{contains_at, place_in}
+use Rattle.flat_design.proofs.PlaceFacts.{place_in}
 use Rattle.flat_design.proofs.TerminalFacts.{zip_at}
 use Rattle.flat_design.proofs.WellFormedLists.{zip_back}
 

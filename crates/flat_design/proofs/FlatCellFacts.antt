@@ -6,6 +6,7 @@ use Rattle.std.proofs.lemmas.Slice.Zip.{AllZip-long}
 use Rattle.std.specs.List.{AllZip}
 use Rattle.timing_types.specs.declared.designs.CellInfo.{CellInfo}
 use Rattle.sdc_model.specs.FlatDesign.{FlatCell, IsCell, port_pins}
+use Rattle.sdc_model.proofs.ListFacts.{element_at}
 use Rattle.flat_design.specs.declared.hierarchy.Hierarchy.{Hierarchy}
 use Rattle.flat_design.specs.declared.layout.CellRow.{CellRow}
 use Rattle.flat_design.specs.Hierarchy.{IsHierarchy, cell_name, cells_in}
@@ -14,7 +15,7 @@ use Rattle.flat_design.specs.NamedFaults.{flat_of}
 use Rattle.flat_design.proofs.CellPlaces.{cell_there, cells_count, flat_cell}
 use Rattle.flat_design.proofs.HierarchyFacts.{one_at}
 use Rattle.flat_design.proofs.PinCounts.{parts_le}
-use Rattle.flat_design.proofs.PlaceFacts.{get_within, take_one}
+use Rattle.flat_design.proofs.PlaceFacts.{take_one}
 use Rattle.flat_design.proofs.RangeFacts.{map_at}
 use Rattle.flat_design.proofs.RowFacts.{both_append}
 
@@ -64,7 +65,7 @@ next_cell design names n name is named at =
     let a : length names ≡ length (map cell_name (cells_in design)) = ap length named in
     let b : length (map cell_name (cells_in design)) ≡ length (cells_in design) = length-map (cells_in design) cell_name in
     let count = is.layout.cell_count in
-    let found = get_within (cells_in design) n (omega (arith, low, a, b)) in
+    let found = element_at (cells_in design) n (omega (arith, low, a, b)) in
     let own = map_at cell_name (cells_in design) n found.0 found.1 in (
       flat_cell found.0 (length (port_pins design.top.now) + pins_in (take n (cells_in design))),
       record {

@@ -1,8 +1,7 @@
 -- From the steps of instances to what stands in a design, or its first fault.
-use Rattle.std.proofs.Common.{◌≡◌, ◌<◌, inl, inr, ℕ, true, List, length, get_or, slice_get, Option, Some, None, Result, Ok, Err, refl, sym, ◌∙◌, ap, subst, arith}
+use Rattle.std.proofs.Common.{◌≡◌, ◌<◌, inl, inr, ℕ, true, List, length, slice_get, Option, Some, None, Result, Ok, Err, refl, sym, ◌∙◌, ap, subst, arith}
 use Rattle.std.proofs.lemmas.List.{length-map}
-use Rattle.std.proofs.lemmas.List.Elements.{All-map}
-use Rattle.std.proofs.lemmas.Option.{get_or_from_slice_get, slice_get_within}
+use Rattle.std.proofs.lemmas.Option.{slice_get_within}
 use Rattle.std.specs.List.{All}
 use Rattle.sdc_base.specs.Gives.{Meets}
 use Rattle.sdc_base.specs.declared.memory.At.{At}
@@ -21,6 +20,7 @@ use Rattle.sdc_model.specs.FlatFaults.{is_too_large}
 use Rattle.sdc_model.specs.Flattening.{FirstOfInstances, Flattens, FlattensTop, NoneOfInstances, fault_of}
 use Rattle.sdc_model.specs.Instances.{Spot, cell_named, module_named, spots_of}
 use Rattle.sdc_model.specs.WellFormedNetlist.{IsWellFormedModule, IsWellFormedNetlist}
+use Rattle.sdc_model.proofs.ListFacts.{all_at, element_at}
 use Rattle.flat_design.specs.declared.hierarchy.Hierarchy.{Hierarchy}
 use Rattle.flat_design.specs.declared.layout.Layout.{Layout}
 use Rattle.flat_design.specs.declared.walk.Step.{Step}
@@ -33,8 +33,7 @@ use Rattle.flat_design.specs.Steps.{all_steps, cell_place, cell_step, fault_step
 use Rattle.flat_design.specs.Walk.{IsWithin}
 use Rattle.flat_design.proofs.HierarchyFacts.{one_at}
 use Rattle.flat_design.proofs.InstanceFaults.{found_at}
-use Rattle.flat_design.proofs.PlaceFacts.{get_within}
-use Rattle.flat_design.proofs.StepFacts.{module_at, module_within}
+use Rattle.flat_design.proofs.StepFacts.{each_step, module_at, module_within}
 use Rattle.flat_design.proofs.TableFacts.{at_place, first_found}
 
 -- ---- steps enter modules that there are
@@ -61,10 +60,7 @@ pub steps_within : (modules : List Module) (library : Library) (steps : List (Li
 steps_within modules library steps is =
     let count : length steps ≡ length modules = ap length is ∙ length-map modules (steps_in modules library) in
     subst (λ (n : ℕ). All (All (IsWithin n)) steps) (sym count)
-    (subst (λ (all : List (List Step)). All (All (IsWithin (length modules))) all) (sym is)
-    (All-map (All (IsWithin (length modules))) (steps_in modules library) modules
-    (λ k d within. All-map (IsWithin (length modules)) (step_of modules library) (get_or modules k d).instances
-    (λ j e low. step_within modules library (get_or (get_or modules k d).instances j e)))))
+    (each_step modules library (IsWithin (length modules)) (λ instance. step_within modules library instance) steps is)
 
 pub steps_count : (modules : List Module) (library : Library) (steps : List (List Step)) (name : List ℕ) (p : ℕ) → steps ≡ all_steps modules library
     → place_of (module_names modules) name ≡ Some p → p < length steps
@@ -75,14 +71,11 @@ steps_count modules library steps name p is at =
 
 -- ---- names
 
-pub all_at : {X : Type 0} (P : X → Type 0) (xs : List X) (k : ℕ) (x : X) → All P xs → slice_get xs k ≡ Some x → P x
-all_at P xs k x all at = subst P (get_or_from_slice_get xs k x x at) (all k x (slice_get_within xs k x at))
-
 formed_modules : (modules : List Module) (library : Library) (top : Module) (layout : Layout) → IsWellFormedNetlist modules
     → IsLayout modules library top layout → AreFormed (spots_of modules top)
 formed_modules modules library top layout well is place spot at =
     let low = slice_get_within (spots_of modules top) place spot at in
-    let row = get_within layout.spots place (omega (arith, low, is.spot_count)) in
+    let row = element_at layout.spots place (omega (arith, low, is.spot_count)) in
     let known : IsSpot modules (spots_of modules top) place row.0 = is.spots place row.0 row.1 in
     let same : known.spot ≡ spot = one_at (spots_of modules top) place known.spot spot known.at at in
     subst (λ (s : Spot). IsWellFormedModule s.body) same (all_at IsWellFormedModule modules row.0.body known.spot.body well.0 known.body)

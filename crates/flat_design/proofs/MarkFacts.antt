@@ -1,9 +1,14 @@
 -- Lists of marks, whatever a mark is.
 use Rattle.std.proofs.Common.{◌≡◌, ◌<◌, ◌==◌, inl, inr, ℕ, zero, suc, Bool, true, List, ◌∷◌, get_or, length, replicate, set, refl, sym, ◌∙◌, subst}
-use Rattle.std.proofs.lemmas.Bool.{cases_eq, eq-eqb, or_left}
+use Rattle.std.proofs.lemmas.Bool.{cases_eq, eq-eqb, ne_eqb, or_left}
 use Rattle.std.proofs.lemmas.List.{get_or-set_same, get_or-set_other}
 use Rattle.flat_design.specs.Walk.{is_in}
-use Rattle.flat_design.proofs.WalkTurns.{in_other}
+
+-- another number in front
+pub in_other : (x y : ℕ) (xs : List ℕ) → (x ≡ y → ⊥) → is_in (x ∷ xs) y ≡ is_in xs y
+in_other x y xs ne = rw (ne_eqb x y ne) refl
+
+-- ---- marks
 
 pub all_new : {M : Type 0} (n i : ℕ) (new : M) → get_or (replicate n new) i new ≡ new
 all_new zero i new = refl

@@ -8,9 +8,10 @@ use Rattle.source_types.specs.declared.netlists.Wire.{Wire}
 use Rattle.sdc_model.specs.FlatNets.{bit_name, net_name, nets_in, wire_nets}
 use Rattle.sdc_model.specs.Instances.{Spot}
 use Rattle.sdc_model.specs.Ranges.{indices, width}
+use Rattle.sdc_model.proofs.ListFacts.{flat_map_same}
+use Rattle.sdc_model.proofs.RangeFacts.{indices_length}
 use Rattle.flat_design.specs.Hierarchy.{bit_names, wire_names}
 use Rattle.flat_design.proofs.BitsApart.{net_of}
-use Rattle.flat_design.proofs.CountFacts.{indices_length}
 use Rattle.flat_design.proofs.PlaceFacts.{flat_one, take_one}
 use Rattle.flat_design.proofs.RangeFacts.{map_at}
 
@@ -18,14 +19,10 @@ pub map_flat : {A B C : Type 0} (g : B → C) (f : A → List B) (xs : List A) �
 map_flat g f [] = refl
 map_flat g f (x ∷ xs) = map-append g (f x) (flat_map f xs) ∙ ap (λ ys. map g (f x) ++ ys) (map_flat g f xs)
 
-pub same_flat : {A B : Type 0} (f g : A → List B) → ((x : A) → f x ≡ g x) → (xs : List A) → flat_map f xs ≡ flat_map g xs
-same_flat f g same [] = refl
-same_flat f g same (x ∷ xs) = ap (λ ys. ys ++ flat_map f xs) (same x) ∙ ap (λ ys. g x ++ ys) (same_flat f g same xs)
-
 pub names_in : (spot : Spot) → map net_name (nets_in spot) ≡ flat_map (wire_names spot.prefix) spot.body.nets
 names_in spot =
     map_flat net_name (wire_nets spot) spot.body.nets
-    ∙ same_flat (λ (wire : Wire). map net_name (wire_nets spot wire)) (wire_names spot.prefix)
+    ∙ flat_map_same (λ (wire : Wire). map net_name (wire_nets spot wire)) (wire_names spot.prefix)
     (λ wire. map-map net_name (net_of spot wire) (indices wire.range)) spot.body.nets
 
 -- the names of one more module

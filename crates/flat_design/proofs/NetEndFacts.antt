@@ -1,12 +1,12 @@
 -- The ends of nets by their numbers are the sources of a design's nets, and a net with a fault by its sources has one.
-use Rattle.std.proofs.Common.{◌≡◌, ◌<◌, ◌≤◌, ◌⊎◌, inl, inr, ℕ, Bool, true, false, cond, List, [], ◌∷◌, length, map, nat_eq, nat_lt, slice_get, Some, refl, ◌∙◌, ap, arith}
-use Rattle.std.proofs.lemmas.Bool.{cases_lt, ltb-true, ne_eqb}
-use Rattle.std.proofs.lemmas.List.Elements.{All-head, All-tail}
-use Rattle.std.specs.List.{AllZip, filter, flat_map}
+use Rattle.std.proofs.Common.{◌≡◌, ◌<◌, ◌⊎◌, inl, inr, ℕ, true, false, List, length, nat_lt, slice_get, Some, ◌∙◌, ap, arith}
+use Rattle.std.proofs.lemmas.Bool.{cases_lt, ltb-true}
+use Rattle.std.specs.List.{AllZip, flat_map}
 use Rattle.timing_types.specs.declared.designs.Source.{Source}
 use Rattle.source_types.specs.declared.fault_kinds.DesignKind.TheVariants as fault
 use Rattle.sdc_model.specs.FlatNets.{FlatNet, bit_of, nets_in}
 use Rattle.sdc_model.specs.Flattening.{NoneOfNets}
+use Rattle.sdc_model.proofs.ListFacts.{element_at}
 use Rattle.flat_design.specs.declared.feeds.FeedRow.{FeedRow}
 use Rattle.flat_design.specs.declared.feeds.Feeder.{Feeder}
 use Rattle.flat_design.specs.declared.hierarchy.Hierarchy.{Hierarchy}
@@ -17,29 +17,20 @@ use Rattle.flat_design.specs.Hierarchy.{IsHierarchy, spots_in}
 use Rattle.flat_design.specs.NamedFaults.{AreSourcesOf, flat_of}
 use Rattle.flat_design.specs.NetEnds.{IsFaulty, IsTableOf, TellsTwo}
 use Rattle.flat_design.specs.PinRows.{AreEnds}
-use Rattle.flat_design.specs.Sources.{AreWithin, HaveOne, IsRowWithin, Returns, fed, has_two}
+use Rattle.flat_design.specs.Sources.{AreWithin, HaveOne, Returns, fed, has_two}
+use Rattle.flat_design.proofs.EndFacts.{fed_past}
 use Rattle.flat_design.proofs.FedNumbers.{sources_count}
 use Rattle.flat_design.proofs.FedPaths.{comes_back_by_bit, returns_by_number, source_by_number}
-use Rattle.flat_design.proofs.PlaceFacts.{get_within}
 use Rattle.flat_design.proofs.RangeFacts.{map_at}
+use Rattle.flat_design.proofs.SourceFacts.{nets_within}
 
 -- ---- nets that have no two sources
-
--- nothing feeds what is no net
-none_fed : (nets pins net : ℕ) (rows : List FeedRow) → nets ≤ net → AreWithin nets pins rows → fed rows net ≡ []
-none_fed nets pins net [] past within = refl
-none_fed nets pins net (row ∷ rows) past within =
-    let low = (All-head (IsRowWithin nets pins) row rows within).0 in
-    let other : nat_eq row.to net ≡ false = ne_eqb row.to net (λ same. omega (arith, low, past, same)) in
-    let rest = none_fed nets pins net rows past (All-tail (IsRowWithin nets pins) row rows within) in
-    ap (λ (t : Bool). map (λ (r : FeedRow). r.from) (cond t (row ∷ filter (λ (r : FeedRow). nat_eq r.to net) rows) (filter (λ (r : FeedRow). nat_eq r.to net) rows)))
-    other ∙ rest
 
 pub one_each : (nets pins : ℕ) (rows : List FeedRow) → AreWithin nets pins rows → TellsTwo rows nets false → HaveOne rows
 one_each nets pins rows within none net =
     elim (cases_lt net nets) [
       | inl low ↦ none net low
-      | inr past ↦ ap (λ (from : List Feeder). nat_lt 1 (length from)) (none_fed nets pins net rows past within)
+      | inr past ↦ ap (λ (from : List Feeder). nat_lt 1 (length from)) (fed_past nets rows net (nets_within nets pins rows within) past)
     ]
 
 -- ---- by design
@@ -76,5 +67,5 @@ never_sound design table is known faulty none =
     let count = is.layout.nets in
     let own = known.nets in
     let low : faulty.0 < length (flat_of design).nets = omega (arith, faulty.1, own, count) in
-    let net = get_within (flat_of design).nets faulty.0 low in
+    let net = element_at (flat_of design).nets faulty.0 low in
     fault_of_net design table.rows.now faulty.0 net.0 is known.rows net.1 none faulty.2

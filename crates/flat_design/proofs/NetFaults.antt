@@ -7,12 +7,12 @@ use Rattle.source_types.specs.declared.fault_kinds.DesignKind.TheVariants as fau
 use Rattle.sdc_model.specs.FlatFaults.{NetHas, is_among, net_line}
 use Rattle.sdc_model.specs.FlatNets.{FlatNet, bit_of, net_name}
 use Rattle.sdc_model.specs.Flattening.{FirstOfNets, NoneOfNets, fault_of}
+use Rattle.sdc_model.proofs.ListFacts.{element_at}
 use Rattle.flat_design.specs.declared.feeds.FeedRow.{FeedRow}
 use Rattle.flat_design.specs.declared.hierarchy.Hierarchy.{Hierarchy}
 use Rattle.flat_design.specs.NamedFaults.{AreSourcesOf, HaveNoneBefore, IsFirstKind, NumberHas, flat_of}
 use Rattle.flat_design.specs.Sources.{fed}
 use Rattle.flat_design.proofs.FirstFaults.{first_here, none_all, none_more}
-use Rattle.flat_design.proofs.PlaceFacts.{get_within}
 use Rattle.flat_design.proofs.RangeFacts.{map_at}
 
 -- what a net's number has is what the net has, and back
@@ -67,7 +67,7 @@ net_there : (design : Hierarchy) (names : List (List ℕ)) (n : ℕ) → names �
 net_there design names n named low =
     let count = length-map (flat_of design).nets net_name in
     let same = ap length named in
-    get_within (flat_of design).nets n (omega (arith, low, same, count))
+    element_at (flat_of design).nets n (omega (arith, low, same, count))
 
 -- the first net that has a fault
 pub net_fails : (design : Hierarchy) (names : List (List ℕ)) (rows : List FeedRow) (n line : ℕ) (kind : DesignKind) (found : Option DesignKind)

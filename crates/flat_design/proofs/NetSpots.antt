@@ -7,6 +7,7 @@ use Rattle.std.proofs.lemmas.Option.{get_or_from_slice_get, slice_get_within}
 use Rattle.std.specs.List.{flat_map, prefix_len}
 use Rattle.sdc_model.specs.FlatNets.{FlatNet, nets_in}
 use Rattle.sdc_model.specs.Instances.{Spot}
+use Rattle.sdc_model.proofs.ListFacts.{element_at}
 use Rattle.flat_design.specs.declared.hierarchy.Hierarchy.{Hierarchy}
 use Rattle.flat_design.specs.declared.layout.SpotRow.{SpotRow}
 use Rattle.flat_design.specs.Hierarchy.{IsHierarchy, spots_in}
@@ -14,7 +15,7 @@ use Rattle.flat_design.specs.Layout.{nets_of}
 use Rattle.flat_design.proofs.BitsApart.{net_spot}
 use Rattle.flat_design.proofs.HierarchyFacts.{one_at}
 use Rattle.flat_design.proofs.NumberFacts.{flat_at}
-use Rattle.flat_design.proofs.PlaceFacts.{get_within, parts_more}
+use Rattle.flat_design.proofs.PlaceFacts.{parts_more}
 
 -- ---- those that come before the first one without something
 
@@ -36,7 +37,7 @@ part_at f xs s n x y x_is low high y_is =
     let j : ℕ = n - length (flat_map f (take s xs)) in
     let same : n ≡ length (flat_map f (take s xs)) + j = omega (arith, low) in
     let within : j < length (f x) = omega (arith, low, high, more) in
-    let own = get_within (f x) j within in
+    let own = element_at (f x) j within in
     let there = flat_at f xs s j x own.0 x_is own.1 in
     (j, own.1 ∙ ap (λ z. Some z) (one_at (flat_map f xs) n own.0 y (ap (slice_get (flat_map f xs)) same ∙ there) y_is))
 
@@ -54,7 +55,7 @@ one_begun design net is =
     elim (cases_lt 0 (begun_by net rows)) [
       | inl some ↦ omega (arith, some)
       | inr none ↦
-          let row = get_within rows 0 there in
+          let row = element_at rows 0 there in
           let known = is.layout.spots 0 row.0 row.1 in
           let none_is : begun_by net rows ≡ 0 = omega (arith, none) in
           let no = prefix_end (λ (one : SpotRow). nat_le one.first_net net) rows row.0 (ap (slice_get rows) none_is ∙ row.1) in
@@ -72,7 +73,7 @@ end_behind design net is low =
     let k = begun_by net rows in
     elim (cases_lt k (length rows)) [
       | inl more ↦
-          let row = get_within rows k more in
+          let row = element_at rows k more in
           let known = is.layout.spots k row.0 row.1 in
           let high = leb-false row.0.first_net net (prefix_end (λ (one : SpotRow). nat_le one.first_net net) rows row.0 row.1) in
           omega (arith, high, known.first)
@@ -97,7 +98,7 @@ spot_found design net found is low at =
     let one = one_begun design net is in
     let few = prefix_len-le-length (λ (row : SpotRow). nat_le row.first_net net) rows in
     let next : s + 1 ≡ begun_by net rows = omega (arith, one) in
-    let row = get_within rows s (omega (arith, one, few)) in
+    let row = element_at rows s (omega (arith, one, few)) in
     let known = is.layout.spots s row.0 row.1 in
     let begins = leb-true row.0.first_net net (prefix_before (λ (r : SpotRow). nat_le r.first_net net) rows s row.0 (omega (arith, one)) row.1) in
     let high : net < nets_of (take (s + 1) spots) = subst (λ (k : ℕ). net < nets_of (take k spots)) (sym next) (end_behind design net is low) in

@@ -14,11 +14,13 @@ use Rattle.sdc_model.specs.Ranges.{from_to, indices, span, width}
 use Rattle.sdc_model.specs.WellFormedDesign.{AreDistinct}
 use Rattle.sdc_model.specs.WellFormedNetlist.{IsNetBit, Selects}
 use Rattle.sdc_model.specs.Words.{same_text}
+use Rattle.sdc_model.proofs.ListFacts.{front_at}
+use Rattle.sdc_model.proofs.RangeFacts.{indices_length}
 use Rattle.flat_design.specs.Layout.{capped, nets_of}
 use Rattle.flat_design.specs.Names.{next_place, place_of}
 use Rattle.flat_design.specs.NetNumbers.{IsNumber, net_names, net_starts}
 use Rattle.flat_design.proofs.BitsApart.{net_of}
-use Rattle.flat_design.proofs.CountFacts.{indices_length, nets_length, same_sum}
+use Rattle.flat_design.proofs.CountFacts.{nets_length, same_sum}
 use Rattle.flat_design.proofs.InstanceFaults.{found_at}
 use Rattle.flat_design.proofs.PlaceFacts.{place_in}
 use Rattle.flat_design.proofs.RangeFacts.{down_at, map_at, up_at}
@@ -30,11 +32,6 @@ behind_at [] ys n y at = let e : 0 + n ≡ n = omega arith in ap (slice_get ys) 
 behind_at (z ∷ front) ys n y at =
     let e : length (z ∷ front) + n ≡ suc (length front + n) = omega arith in
     ap (slice_get (z ∷ (front ++ ys))) e ∙ behind_at front ys n y at
-
-pub front_at : {Y : Type 0} (front ys : List Y) (n : ℕ) (y : Y) → slice_get front n ≡ Some y → slice_get (front ++ ys) n ≡ Some y
-front_at [] ys n y at = let bad : None ≡ Some y = at in cc
-front_at (z ∷ front) ys zero y at = at
-front_at (z ∷ front) ys (suc n) y at = front_at front ys n y at
 
 -- a thing of a part stands behind all parts before it
 pub flat_at : {X Y : Type 0} (f : X → List Y) (xs : List X) (i j : ℕ) (x : X) (y : Y) → slice_get xs i ≡ Some x → slice_get (f x) j ≡ Some y

@@ -1,10 +1,11 @@
 -- An order of modules has each module once, so that it is no longer than the modules are many.
-use Rattle.std.proofs.Common.{◌≡◌, ◌+◌, ◌<◌, ◌≤◌, ◌||◌, ◌==◌, inl, inr, ℕ, zero, suc, Bool, true, false, List, [], ◌∷◌, ◌++◌, length, take, refl, ◌∙◌, ap, subst, arith}
-use Rattle.std.proofs.lemmas.Bool.{cases_eq, eq-eqb, ne_eqb, or_right}
+use Rattle.std.proofs.Common.{◌≡◌, ◌+◌, ◌<◌, ◌≤◌, ◌==◌, inl, inr, ℕ, zero, suc, Bool, true, false, List, [], ◌∷◌, ◌++◌, length, take, refl, ◌∙◌, ap, subst, arith}
+use Rattle.std.proofs.lemmas.Bool.{cases_eq, eq-eqb, or_right}
+use Rattle.sdc_model.proofs.ListFacts.{element_at}
 use Rattle.flat_design.specs.declared.walk.Step.{Step}
 use Rattle.flat_design.specs.Walk.{AreOrdered, is_in}
-use Rattle.flat_design.proofs.PlaceFacts.{get_within, take_one}
-use Rattle.flat_design.proofs.WalkSteps.{in_push}
+use Rattle.flat_design.proofs.PlaceFacts.{take_none, take_one}
+use Rattle.flat_design.proofs.WalkSteps.{in_push, in_push_other}
 
 abbrev one_unless : Bool → ℕ
 one_unless true = 0
@@ -15,18 +16,11 @@ abbrev left_out : List ℕ → ℕ → ℕ
 left_out xs zero = 0
 left_out xs (suc n) = one_unless (is_in xs n) + left_out xs n
 
-or_false : (b : Bool) → (b || false) ≡ b
-or_false true = refl
-or_false false = refl
-
-push_other : (xs : List ℕ) (m n : ℕ) → (m ≡ n → ⊥) → is_in (xs ++ m ∷ []) n ≡ is_in xs n
-push_other xs m n apart = in_push xs m n ∙ (ap (λ (b : Bool). is_in xs n || b) (ne_eqb m n apart) ∙ or_false (is_in xs n))
-
 -- one more number leaves those below it
 kept_below : (xs : List ℕ) (m n : ℕ) → n ≤ m → left_out (xs ++ m ∷ []) n ≡ left_out xs n
 kept_below xs m zero low = refl
 kept_below xs m (suc n) low =
-    let one : one_unless (is_in (xs ++ m ∷ []) n) ≡ one_unless (is_in xs n) = ap one_unless (push_other xs m n (λ same. omega (arith, low, same))) in
+    let one : one_unless (is_in (xs ++ m ∷ []) n) ≡ one_unless (is_in xs n) = ap one_unless (in_push_other xs m n (λ same. omega (arith, low, same))) in
     let rest = kept_below xs m n (omega (arith, low)) in
     omega (arith, one, rest)
 
@@ -43,7 +37,7 @@ one_fewer xs m (suc n) low none =
           let rest = kept_below xs m n (omega (arith, same)) in
           omega (arith, new, old, rest)
       | inr apart ↦
-          let one : one_unless (is_in (xs ++ m ∷ []) n) ≡ one_unless (is_in xs n) = ap one_unless (push_other xs m n apart) in
+          let one : one_unless (is_in (xs ++ m ∷ []) n) ≡ one_unless (is_in xs n) = ap one_unless (in_push_other xs m n apart) in
           let rest = one_fewer xs m n (omega (arith, low, apart)) none in
           omega (arith, one, rest)
     ]
@@ -52,17 +46,13 @@ none_in : (n : ℕ) → left_out [] n ≡ n
 none_in zero = refl
 none_in (suc n) = let rest = none_in n in omega (arith, rest)
 
-take_none : (xs : List ℕ) → take 0 xs ≡ []
-take_none [] = refl
-take_none (x ∷ xs) = refl
-
 so_many : (all : List (List Step)) (order : List ℕ) → AreOrdered all order → (k : ℕ) → k ≤ length order → left_out (take k order) (length all) + k ≡ length all
 so_many all order ordered zero low =
     let a = ap (λ (xs : List ℕ). left_out xs (length all)) (take_none order) in
     let b = none_in (length all) in
     omega (arith, a, b)
 so_many all order ordered (suc k) low =
-    let here = get_within order k (omega (arith, low)) in
+    let here = element_at order k (omega (arith, low)) in
     let own = ordered k here.0 here.1 in
     let before = so_many all order ordered k (omega (arith, low)) in
     let fewer = one_fewer (take k order) here.0 (length all) own.0 own.1 in

@@ -13,8 +13,9 @@ use Rattle.sdc_model.specs.FlatFaults.{flat_pin_name}
 use Rattle.sdc_model.specs.FlatNets.{connected_pins}
 use Rattle.sdc_model.specs.Instances.{PlacedCell, cells_of}
 use Rattle.sdc_model.specs.Ranges.{indices}
+use Rattle.sdc_model.proofs.ListFacts.{flat_map_same}
 use Rattle.flat_design.specs.Hierarchy.{bit_names, cell_name, pin_names_in, port_names}
-use Rattle.flat_design.proofs.NameFacts.{map_flat, same_flat}
+use Rattle.flat_design.proofs.NameFacts.{map_flat}
 use Rattle.flat_design.proofs.PinCounts.{connected_length, pin_names_length}
 use Rattle.flat_design.proofs.PlaceFacts.{flat_one}
 
@@ -47,7 +48,7 @@ cells_names_are n (cell ∷ cells) =
 pub ports_names_are : (top : Module) → map flat_pin_name (port_pins top) ≡ port_names top.ports
 ports_names_are top =
     map_flat flat_pin_name (λ (port : Port). map (port_pin port) (indices port.range)) top.ports
-    ∙ same_flat (λ (port : Port). map flat_pin_name (map (port_pin port) (indices port.range))) (λ (port : Port). bit_names [] port.name port.range)
+    ∙ flat_map_same (λ (port : Port). map flat_pin_name (map (port_pin port) (indices port.range))) (λ (port : Port). bit_names [] port.name port.range)
     (λ port. map-map flat_pin_name (port_pin port) (indices port.range)) top.ports
 
 pub all_names_are : (modules : List Module) (library : Library) (top : Module)

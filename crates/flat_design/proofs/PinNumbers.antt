@@ -9,6 +9,7 @@ use Rattle.sdc_model.specs.Connections.{connected, names_of, pins_of}
 use Rattle.sdc_model.specs.FlatDesign.{FlatPin, cell_pin, cell_pins, port_pins}
 use Rattle.sdc_model.specs.FlatNets.{PinPlace, connected_pins, pin_of}
 use Rattle.sdc_model.specs.Instances.{PlacedCell, path_of}
+use Rattle.sdc_model.proofs.ListFacts.{element_at}
 use Rattle.flat_design.specs.declared.hierarchy.Hierarchy.{Hierarchy}
 use Rattle.flat_design.specs.declared.layout.CellRow.{CellRow}
 use Rattle.flat_design.specs.Feeds.{IsPinNumber}
@@ -17,7 +18,6 @@ use Rattle.flat_design.specs.Layout.{pins_in}
 use Rattle.flat_design.proofs.AddedFeeds.{zip_get}
 use Rattle.flat_design.proofs.NumberFacts.{behind_at, flat_at}
 use Rattle.flat_design.proofs.PinCounts.{cells_length, connected_length, pin_names_length, pins_length}
-use Rattle.flat_design.proofs.PlaceFacts.{get_within}
 use Rattle.flat_design.proofs.RangeFacts.{map_at}
 
 pub numbered_at : {X : Type 0} (m : ℕ) (xs : List X) (n : ℕ) (x : X) → slice_get xs n ≡ Some x → slice_get (enumerate_from m xs) n ≡ Some (m + n, x)
@@ -45,14 +45,14 @@ connection_at cell at pin is =
     let low = slice_get_within cell.kind.pins at pin is in
     let count = connected_length names cell.placed.instance.links in
     let own = pin_names_length cell.kind in
-    let here = get_within (connected names cell.placed.instance.links) at (omega (arith, low, count, own)) in
+    let here = element_at (connected names cell.placed.instance.links) at (omega (arith, low, count, own)) in
     (here.0, zip_get (enumerate_from 0 cell.kind.pins) (connected names cell.placed.instance.links) at (0 + at, pin) here.0 (numbered_at 0 cell.kind.pins at pin is) here.1)
 
 pub pin_number : (design : Hierarchy) (n at : ℕ) (cell : PlacedCell) (row : CellRow) → IsHierarchy design → slice_get (cells_in design) n ≡ Some cell
     → at < length cell.kind.pins → slice_get design.layout.cells n ≡ Some row → IsPinNumber design (row.first_pin + at) (pin_of (path_of cell.placed) at)
 pin_number design n at cell row is cell_at low row_at =
     let known = is.layout.cells n row row_at in
-    let pin = get_within cell.kind.pins at low in
+    let pin = element_at cell.kind.pins at low in
     let own = connection_at cell at pin.0 pin.1 in
     let ports = port_pins design.top.now in
     let cells = cells_in design in

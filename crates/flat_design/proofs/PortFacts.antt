@@ -10,10 +10,10 @@ use Rattle.sdc_model.specs.FlatNets.{Feed, across, port_bits}
 use Rattle.sdc_model.specs.Instances.{Spot}
 use Rattle.sdc_model.specs.Ranges.{indices, width}
 use Rattle.sdc_model.specs.WellFormedNetlist.{IsNetBit, Selects}
+use Rattle.sdc_model.proofs.RangeFacts.{indices_length}
 use Rattle.flat_design.specs.declared.hierarchy.Hierarchy.{Hierarchy}
 use Rattle.flat_design.specs.Feeds.{HasPort}
 use Rattle.flat_design.specs.Hierarchy.{spots_in}
-use Rattle.flat_design.proofs.CountFacts.{indices_length}
 use Rattle.flat_design.proofs.TieFacts.{selects_at}
 
 -- how a bit of a port and a bit outside feed each other

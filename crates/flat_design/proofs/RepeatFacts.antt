@@ -5,11 +5,11 @@ use Rattle.std.proofs.Math.Bool.{not-not}
 use Rattle.std.specs.List.{list_any}
 use Rattle.sdc_model.specs.FlatFaults.{is_among}
 use Rattle.sdc_model.specs.Words.{same_text}
+use Rattle.sdc_model.proofs.ListFacts.{front_at}
 use Rattle.flat_design.specs.Fitting.{stands_first}
 use Rattle.flat_design.specs.Names.{place_of}
 use Rattle.flat_design.proofs.NamedFits.{first_in, same_swap}
 use Rattle.flat_design.proofs.HierarchyFacts.{one_at}
-use Rattle.flat_design.proofs.NumberFacts.{front_at}
 use Rattle.flat_design.proofs.PlaceFacts.{get_middle}
 
 pub any_swap : (names : List (List ℕ)) (name : List ℕ) → list_any (λ (f : List ℕ). same_text f name) names ≡ is_among names name

@@ -13,7 +13,7 @@ use Rattle.flat_design.specs.declared.returning.Search.{Search}
 use Rattle.flat_design.specs.Sources.{fed}
 use Rattle.flat_design.specs.SourceTable.{IsLast, IsRowOf}
 use Rattle.flat_design.specs.Searches.{ReachesMore, has_net, is_left, is_net, is_reached, to_search}
-use Rattle.flat_design.proofs.SourceFacts.{last_some, last_whole}
+use Rattle.flat_design.proofs.SourceFacts.{counted, last_some, last_whole}
 
 -- ---- truth values
 
@@ -180,9 +180,6 @@ reaching_more rows net wanted place at row found old now new so is own more =
           ∙ ap (λ (r : Bool). is_left old m || (r && not (is_reached old m))) (sym (more.reached m)))));
       weight = more.weight ∙ so.weight;
     }
-
-counted : (n : ℕ) → 0 < n → n ≡ suc (n - 1)
-counted n some = omega arith
 
 pub reaching_next : (rows : List FeedRow) (net wanted last at : ℕ) (row : FeedRow) (found later : Bool) (old now new : Search)
     → Reaching rows net wanted last found old now → 0 < last → slice_get rows (last - 1) ≡ Some row → IsLast rows row.to (last - 1) at

@@ -3,7 +3,6 @@
 use Rattle.std.proofs.Common.{◌≡◌, ◌<◌, ◌≤◌, ◌||◌, ◌==◌, inl, inr, ℕ, zero, suc, true, List, [], ◌∷◌, map, length, take, drop, get_or, replicate, set, slice_get, nat_lt, Option, Some, None, refl, sym, ◌∙◌, ap, subst, arith}
 use Rattle.std.proofs.lemmas.Bool.{cases_eq, eq-eqb, lt-ltb, ltb-true, or_cases, or_left, or_right}
 use Rattle.std.proofs.lemmas.List.{get_or-set_other, get_or-set_same, length-append, length-map, length-replicate, length-set}
-use Rattle.std.proofs.lemmas.List.Elements.{All-map}
 use Rattle.std.proofs.lemmas.Option.{get_or_from_slice_get, slice_get_within}
 use Rattle.std.specs.List.{All, filter_map, flat_map}
 use Rattle.source_types.specs.declared.fault_kinds.DesignKind.{DesignKind}
@@ -18,20 +17,20 @@ use Rattle.sdc_model.specs.FlatFaults as faults
 use Rattle.sdc_model.specs.FlatNets.{nets_in}
 use Rattle.sdc_model.specs.Flattening.{NoneOfInstances}
 use Rattle.sdc_model.specs.Instances.{entered, instances_of, top_spot}
+use Rattle.sdc_model.proofs.ListFacts.{element_at}
 use Rattle.flat_design.specs.declared.sizes.Size.{Size}
 use Rattle.flat_design.specs.declared.walk.Step.{Step}
 use Rattle.flat_design.specs.Layout.{capped, net_count, port_count}
 use Rattle.flat_design.specs.Names.{place_of}
 use Rattle.flat_design.specs.Sizes.{IsKind, is_beyond, is_counted_beyond, module_size, no_size, sizes_along, sizes_in, with_size}
-use Rattle.flat_design.specs.Steps.{all_steps, cell_names, cell_step, fault_step, module_names, named_step, step_of, step_of_cell, steps_in}
+use Rattle.flat_design.specs.Steps.{all_steps, cell_names, cell_step, fault_step, module_names, named_step, step_of_cell, steps_in}
 use Rattle.flat_design.specs.Walk.{AreOrdered, is_in, steps_of}
 use Rattle.flat_design.proofs.CountFacts.{ports_length}
 use Rattle.flat_design.proofs.OrderFacts.{order_few}
 use Rattle.flat_design.proofs.PinCounts.{pins_length}
-use Rattle.flat_design.proofs.PlaceFacts.{get_within}
 use Rattle.flat_design.proofs.RangeFacts.{map_at}
 use Rattle.flat_design.proofs.SizeBounds.{IsCounted, IsUpTo, amount, each_faultless, module_counted, own_nets, plus}
-use Rattle.flat_design.proofs.StepFacts.{cell_within, step_known, step_unknown}
+use Rattle.flat_design.proofs.StepFacts.{cell_within, each_step, step_known, step_unknown}
 use Rattle.flat_design.proofs.WalkFacts.{differ, in_take_place}
 use Rattle.flat_design.proofs.WalkSteps.{in_place}
 
@@ -61,7 +60,7 @@ drop_end (x ∷ xs) (suc n) is = let rest = drop_end xs n is in omega (arith, re
 -- an order has modules that there are
 pub order_within : (all : List (List Step)) (order : List ℕ) → AreOrdered all order → All (λ m. m < length all) order
 order_within all order ordered place d low =
-    let here = get_within order place low in
+    let here = element_at order place low in
     subst (λ (m : ℕ). m < length all) (sym (get_or_from_slice_get order place here.0 d here.1)) (ordered place here.0 here.1).0
 
 -- ---- the kinds of cells
@@ -89,10 +88,8 @@ named_kind modules library instance (Some p) = tt
 pub kinds_within : (modules : List Module) (library : Library) (steps : List (List Step)) → steps ≡ all_steps modules library
     → All (All (IsKind (length library.cells))) steps
 kinds_within modules library steps is =
-    subst (λ (all : List (List Step)). All (All (IsKind (length library.cells))) all) (sym is)
-    (All-map (All (IsKind (length library.cells))) (steps_in modules library) modules
-    (λ k d within. All-map (IsKind (length library.cells)) (step_of modules library) (get_or modules k d).instances
-    (λ j e low. let one = get_or (get_or modules k d).instances j e in named_kind modules library one (place_of (module_names modules) one.kind))))
+    each_step modules library (IsKind (length library.cells))
+    (λ instance. named_kind modules library instance (place_of (module_names modules) instance.kind)) steps is
 
 -- ---- modules in their order
 

@@ -1,5 +1,5 @@
 -- What feeds a net, as the table of sources has it.
-use Rattle.std.proofs.Common.{◌≡◌, ◌+◌, ◌-◌, ◌<◌, ◌≤◌, ◌⊎◌, get_or, inl, inr, ℕ, zero, suc, Bool, true, false, cond, List, [], ◌∷◌, ◌++◌, filter, length, map, nat_eq, nat_lt, set, slice_get, take, Some, None, refl, sym, ◌∙◌, ap, subst, arith}
+use Rattle.std.proofs.Common.{◌≡◌, ◌+◌, ◌-◌, ◌<◌, ◌≤◌, get_or, inl, inr, ℕ, zero, suc, Bool, true, false, cond, List, [], ◌∷◌, ◌++◌, filter, length, map, nat_eq, nat_lt, set, slice_get, take, Some, None, refl, sym, ◌∙◌, ap, subst, arith}
 use Rattle.std.proofs.lemmas.Bool.{true≢false, cases_eq, eq-eqb, ne_eqb}
 use Rattle.std.proofs.lemmas.Bool.Decides.{nat_tests}
 use Rattle.std.proofs.lemmas.List.{length-append}
@@ -11,6 +11,7 @@ use Rattle.flat_design.specs.declared.feeds.Feeder.{Feeder}
 use Rattle.flat_design.specs.declared.feeds.Feeder.TheVariants as feeder
 use Rattle.flat_design.specs.Sources.{AreWithin, IsFeederWithin, IsRowWithin, LeadsTo, fed, has_two}
 use Rattle.flat_design.specs.SourceTable.{AreNetRows, IsLast, IsNetRow, IsNetWithin}
+use Rattle.flat_design.proofs.PlaceFacts.{get_push}
 
 -- ---- rows within nets and pins
 
@@ -120,20 +121,12 @@ lasts_more rows last place n row one is inside before net at there =
           }
     ]
 
-pushed_at : (xs : List ℕ) (x place at : ℕ) → slice_get (xs ++ x ∷ []) place ≡ Some at
-    → (slice_get xs place ≡ Some at) ⊎ ((place ≡ length xs) × (x ≡ at))
-pushed_at [] x zero at is = let e : Some x ≡ Some at = is in inr (refl, cc)
-pushed_at [] x (suc place) at is = let e : None ≡ Some at = is in cc
-pushed_at (y ∷ ys) x zero at is = inl is
-pushed_at (y ∷ ys) x (suc place) at is =
-    elim (pushed_at ys x place at is) [ inl h ↦ inl h | inr h ↦ inr (ap suc h.0, h.1) ]
-
 pub before_more : (rows : List FeedRow) (earlier : List ℕ) (count last : ℕ) (row : FeedRow) → length earlier ≡ count → slice_get rows count ≡ Some row
     → IsLast rows row.to count last
     → ((place at : ℕ) (r : FeedRow) → slice_get rows place ≡ Some r → slice_get earlier place ≡ Some at → IsLast rows r.to place at)
     → (place at : ℕ) (r : FeedRow) → slice_get rows place ≡ Some r → slice_get (earlier ++ last ∷ []) place ≡ Some at → IsLast rows r.to place at
 before_more rows earlier count last row size is own before place at r here there =
-    elim (pushed_at earlier last place at there) [
+    elim (get_push earlier last place at there) [
       | inl old ↦ before place at r here old
       | inr new ↦
           let k : count ≡ place = omega (arith, size, new.0) in
@@ -215,7 +208,7 @@ own_last rows last net place at inside is all = all net at (slice_get_read last 
 pub row_inside : (rows : List FeedRow) (net at : ℕ) → IsLast rows net (length rows) at → 0 < at → at - 1 < length rows
 row_inside rows net at is some = omega (arith, is.within)
 
-counted : (at : ℕ) → 0 < at → at ≡ suc (at - 1)
+pub counted : (at : ℕ) → 0 < at → at ≡ suc (at - 1)
 counted at some = omega arith
 
 pub two_of : (rows : List FeedRow) (net at before : ℕ) → IsLast rows net (length rows) at → 0 < at

@@ -1,7 +1,9 @@
 -- The step of an instance by what the tables find of its name.
-use Rattle.std.proofs.Common.{◌≡◌, ◌<◌, ℕ, Bool, true, false, List, length, get_or, slice_get, unwrap_or, Option, Some, None, refl, sym, ◌∙◌, ap, cond}
+use Rattle.std.proofs.Common.{◌≡◌, ◌<◌, ℕ, Bool, true, false, List, length, get_or, slice_get, unwrap_or, Option, Some, None, refl, sym, ◌∙◌, ap, subst, cond}
 use Rattle.std.proofs.lemmas.Bool.{cond-true, cond-false}
+use Rattle.std.proofs.lemmas.List.Elements.{All-map}
 use Rattle.std.proofs.lemmas.Option.{slice_get_read, slice_get_within}
+use Rattle.std.specs.List.{All}
 use Rattle.source_types.specs.declared.fault_kinds.DesignKind.TheVariants as fault
 use Rattle.source_types.specs.declared.libraries.Library.{Library}
 use Rattle.source_types.specs.declared.library_cells.LibCell.{LibCell}
@@ -10,11 +12,21 @@ use Rattle.source_types.specs.declared.netlists.Links.{Links}
 use Rattle.source_types.specs.declared.netlists.Module.{Module}
 use Rattle.sdc_model.specs.Connections.{links_fit, pins_of}
 use Rattle.sdc_model.specs.Instances.{cell_named, module_named}
+use Rattle.flat_design.specs.declared.walk.Step.{Step}
 use Rattle.flat_design.specs.declared.walk.Step.TheVariants as step
 use Rattle.flat_design.specs.Names.{place_of}
-use Rattle.flat_design.specs.Steps.{cell_names, cell_place, cell_step, fault_step, fits_module, fits_step, module_names, named_step, step_of, step_of_cell}
+use Rattle.flat_design.specs.Steps.{all_steps, cell_names, cell_place, cell_step, fault_step, fits_module, fits_step, module_names, named_step, step_of, step_of_cell, steps_in}
 use Rattle.flat_design.proofs.InstanceFaults.{found_at}
 use Rattle.flat_design.proofs.TableFacts.{at_place, first_found}
+
+-- what holds of the step of each instance
+pub each_step : (modules : List Module) (library : Library) (P : Step → Type 0) → ((instance : Instance) → P (step_of modules library instance))
+    → (steps : List (List Step)) → steps ≡ all_steps modules library → All (All P) steps
+each_step modules library P own steps is =
+    subst (λ (all : List (List Step)). All (All P) all) (sym is)
+    (All-map (All P) (steps_in modules library) modules
+    (λ k d within. All-map P (step_of modules library) (get_or modules k d).instances
+    (λ j e low. own (get_or (get_or modules k d).instances j e))))
 
 -- the module of a name is the one at its place
 pub module_at : (modules : List Module) (name : List ℕ) (p : ℕ) → place_of (module_names modules) name ≡ Some p → slice_get modules p ≡ module_named modules name

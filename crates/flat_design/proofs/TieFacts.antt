@@ -8,9 +8,9 @@ use Rattle.source_types.specs.declared.netlists.Wire.{Wire}
 use Rattle.sdc_model.specs.FlatNets.{tie_feeds}
 use Rattle.sdc_model.specs.Ranges.{from_to, indices, span}
 use Rattle.sdc_model.specs.WellFormedNetlist.{IsBetween, IsNetBit, Selects}
+use Rattle.sdc_model.proofs.RangeFacts.{span_length}
 use Rattle.flat_design.specs.Feeds.{tied_bit}
 use Rattle.flat_design.proofs.ApartFacts.{get_map}
-use Rattle.flat_design.proofs.CountFacts.{span_length}
 use Rattle.flat_design.proofs.RangeFacts.{down_at, down_within, up_at, up_within}
 
 between_at : (range : Range) (place i : ℕ) → slice_get (from_to range.left range.right) place ≡ Some i → IsBetween range i

@@ -10,13 +10,14 @@ use Rattle.sdc_model.specs.FlatNets.{port_bit, top_port_feeds}
 use Rattle.sdc_model.specs.Instances.{top_spot}
 use Rattle.sdc_model.specs.Ranges.{indices, width}
 use Rattle.sdc_model.specs.WellFormedNetlist.{IsNetOfPort, IsWellFormedModule}
+use Rattle.sdc_model.proofs.ListFacts.{contains_at, front_at}
+use Rattle.sdc_model.proofs.RangeFacts.{indices_length}
 use Rattle.flat_design.specs.declared.hierarchy.Hierarchy.{Hierarchy}
 use Rattle.flat_design.specs.Feeds.{HasPort, IsPinNumber, input_feed}
 use Rattle.flat_design.specs.Hierarchy.{IsHierarchy, pins_of_design}
-use Rattle.flat_design.proofs.CountFacts.{indices_length}
-use Rattle.flat_design.proofs.NumberFacts.{flat_at, front_at}
+use Rattle.flat_design.proofs.NumberFacts.{flat_at}
 use Rattle.flat_design.proofs.PinCounts.{parts_le}
-use Rattle.flat_design.proofs.PlaceFacts.{contains_at, parts_more}
+use Rattle.flat_design.proofs.PlaceFacts.{parts_more}
 use Rattle.flat_design.proofs.RangeFacts.{map_at}
 use Rattle.flat_design.proofs.TerminalFacts.{zip_at}
 

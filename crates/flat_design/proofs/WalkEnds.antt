@@ -1,7 +1,8 @@
 -- What the turns of the walk leave: a module is closed; how the walk begins, and what it has at its end.
-use Rattle.std.proofs.Common.{◌≡◌, ◌+◌, ◌-◌, ◌<◌, ◌⊎◌, ◌||◌, ◌==◌, inl, inr, ℕ, zero, suc, Bool, true, false, List, [], ◌∷◌, ◌++◌, length, take, drop, set, replicate, slice_get, Option, Some, None, refl, sym, ◌∙◌, ap, subst, arith}
-use Rattle.std.proofs.lemmas.Bool.{or_cases, or_left, or_parts, or_right, eqb-false, eqb-true, eq-eqb, ne_eqb, cases_eq, cond-false}
+use Rattle.std.proofs.Common.{◌≡◌, ◌+◌, ◌-◌, ◌<◌, ◌||◌, ◌==◌, inl, inr, ℕ, zero, suc, true, false, List, [], ◌∷◌, ◌++◌, length, take, drop, set, replicate, slice_get, Option, Some, None, refl, sym, ◌∙◌, ap, subst, arith}
+use Rattle.std.proofs.lemmas.Bool.{or_cases, or_left, or_parts, or_right, eqb-false, eqb-true, eq-eqb, cases_eq, cond-false}
 use Rattle.std.proofs.lemmas.List.{append-nil, length-replicate, length-set, take-append-le, take_at}
+use Rattle.std.proofs.lemmas.Option.{slice_get_within}
 use Rattle.std.proofs.Math.Bool.{or-false}
 use Rattle.std.specs.List.{AllByRecursion}
 use Rattle.std.specs.Option.{option_to_list}
@@ -13,28 +14,23 @@ use Rattle.flat_design.specs.declared.walk.Mark.TheVariants as mark
 use Rattle.flat_design.specs.declared.walk.Step.{Step}
 use Rattle.flat_design.specs.declared.walk.Step.TheVariants as step
 use Rattle.flat_design.specs.Walk.{AreOrdered, IsOf, faults_along, faults_at, faults_below, faults_from, frame, halt_from, is_in, steps_of}
+use Rattle.flat_design.proofs.MarkFacts.{all_new, in_other, marked_more}
+use Rattle.flat_design.proofs.PlaceFacts.{drop_one, get_push}
 use Rattle.flat_design.proofs.WalkFacts.{is_closed, is_open, mark_of}
-use Rattle.flat_design.proofs.WalkSteps.{AreWaiting, IsFrame, IsStack, TurnOf, Walking, all_new, all_push, around_of, closed_not_open, enough, faults_suc, few_open, in_push, in_push_left, left, left_is, left_outside, modules_in, none_open, open_weight, other_mark, quiet_of, same_mark, total, total_set, turn, weight, weight_of_open}
-use Rattle.flat_design.proofs.WalkTurns.{closed_kept, in_other, opened_step}
+use Rattle.flat_design.proofs.WalkSteps.{AreWaiting, IsFrame, IsStack, TurnOf, Walking, all_push, around_of, closed_not_open, enough, faults_suc, few_open, in_push, in_push_left, in_push_other, left, left_is, left_outside, modules_in, none_open, open_weight, other_mark, quiet_of, same_mark, total, total_set, turn, weight, weight_of_open}
+use Rattle.flat_design.proofs.WalkTurns.{closed_kept}
 
 -- ---- closing a module
-
--- a place of a list with one more number: one of the list, or the new one
-pushed_at : (xs : List ℕ) (m place n : ℕ) → slice_get (xs ++ m ∷ []) place ≡ Some n
-    → ((place < length xs) × (slice_get xs place ≡ Some n)) ⊎ ((place ≡ length xs) × (m ≡ n))
-pushed_at [] m zero n is = let e : Some m ≡ Some n = is in inr (refl, cc)
-pushed_at [] m (suc place) n is = let e : None ≡ Some n = is in cc
-pushed_at (x ∷ xs) m zero n is = inl (omega arith, is)
-pushed_at (x ∷ xs) m (suc place) n is =
-    elim (pushed_at xs m place n is) [ inl h ↦ inl (omega (arith, h.0), h.1) | inr h ↦ inr (ap suc h.0, h.1) ]
 
 abbrev OrderedAt : List (List Step) → List ℕ → ℕ → Type 0
 OrderedAt all before m = (m < length all) × (is_in before m ≡ false) × AllByRecursion (IsOf before) (steps_of all m)
 
 ordered_push : (all : List (List Step)) (order : List ℕ) (m : ℕ) → AreOrdered all order → OrderedAt all order m → AreOrdered all (order ++ m ∷ [])
 ordered_push all order m ordered own place n is =
-    elim (pushed_at order m place n is) [
-      | inl h ↦ subst (λ (xs : List ℕ). OrderedAt all xs n) (sym (take-append-le place order (m ∷ []) (omega (arith, h.0)))) (ordered place n h.1)
+    elim (get_push order m place n is) [
+      | inl h ↦
+          let low = slice_get_within order place n h in
+          subst (λ (xs : List ℕ). OrderedAt all xs n) (sym (take-append-le place order (m ∷ []) (omega (arith, low)))) (ordered place n h)
       | inr h ↦ subst (λ (xs : List ℕ). OrderedAt all xs n) (sym (take_at order (m ∷ []) place (sym h.0))) (subst (OrderedAt all order) h.1 own)
     ]
 
@@ -43,14 +39,6 @@ whole_passed : (order : List ℕ) (steps : List Step) (next : ℕ) → AllByRecu
 whole_passed order steps zero before behind = behind
 whole_passed order [] (suc next) before behind = tt
 whole_passed order (one ∷ rest) (suc next) before behind = (before.0, whole_passed order rest next before.1 behind)
-
-drop_get : (xs : List Step) (n : ℕ) (x : Step) → slice_get xs n ≡ Some x → drop n xs ≡ x ∷ drop (suc n) xs
-drop_get [] n x is = let e : None ≡ Some x = is in cc
-drop_get (y ∷ ys) zero x is = let e : Some y ≡ Some x = is in cc
-drop_get (y ∷ ys) (suc n) x is = drop_get ys n x is
-
-in_push_other : (xs : List ℕ) (m x : ℕ) → (m ≡ x → ⊥) → is_in (xs ++ m ∷ []) x ≡ is_in xs x
-in_push_other xs m x ne = in_push xs m x ∙ (ap (λ (b : Bool). is_in xs x || b) (ne_eqb m x ne) ∙ or-false (is_in xs x))
 
 in_push_same : (xs : List ℕ) (m x : ℕ) → m ≡ x → is_in (xs ++ m ∷ []) x ≡ true
 in_push_same xs m x same = in_push xs m x ∙ or_right (is_in xs x) (m == x) (eq-eqb m x same)
@@ -93,13 +81,11 @@ passed_on all order m levels g rest enough is apart quiet =
     let inner = λ (e : ℕ). faults_from all levels (e ∷ around_of g rest) e 0 in
     let along = λ (n : ℕ) (xs : List Step). faults_along inner (around_of g rest) g.body n xs in
     let here : faults_at inner (around_of g rest) g.body g.next (step.Enter m true) ≡ [] = cond-false (is_in (around_of g rest) m) _ _ apart ∙ quiet in
-    let one_more : suc g.next ≡ g.next + 1 = omega arith in
     ap (λ (xs : List FaultAt). xs ++ left_outside all rest)
     (faults_suc all (length all - length rest) levels (around_of g rest) g.body g.next enough
-    ∙ (ap (along g.next) (drop_get steps g.next (step.Enter m true) is)
-    ∙ (ap (λ (xs : List FaultAt). xs ++ along (g.next + 1) (drop (suc g.next) steps)) here
-    ∙ (ap (λ (n : ℕ). along (g.next + 1) (drop n steps)) one_more
-    ∙ sym (faults_suc all (length all - length rest) levels (around_of g rest) g.body (g.next + 1) enough)))))
+    ∙ (ap (along g.next) (drop_one steps g.next (step.Enter m true) is)
+    ∙ (ap (λ (xs : List FaultAt). xs ++ along (g.next + 1) (drop (g.next + 1) steps)) here
+    ∙ sym (faults_suc all (length all - length rest) levels (around_of g rest) g.body (g.next + 1) enough))))
 
 closed_step : (marks : List Mark) (order : List ℕ) (m : ℕ) → m < length marks → ((x : ℕ) → is_closed (mark_of marks x) ≡ is_in order x)
     → (x : ℕ) → is_closed (mark_of (set marks m mark.Closed) x) ≡ is_in (order ++ m ∷ []) x
@@ -189,22 +175,23 @@ close_falls all top marks order f outer w =
 
 one_open : (n top m : ℕ) → top < n → is_open (mark_of (set (replicate n mark.New) top mark.Open) m) ≡ is_in (top ∷ []) m
 one_open n top m h =
-    opened_step (replicate n mark.New) [] top (omega (arith, length-replicate n mark.New)) (λ x. ap is_open (all_new n x)) m
+    marked_more is_open mark.Open mark.New refl (replicate n mark.New) [] top (omega (arith, length-replicate n mark.New)) (λ x. ap is_open (all_new n x mark.New)) m
 
 pub begun : (all : List (List Step)) (top : ℕ) → top < length all
     → Walking all top (set (replicate (length all) mark.New) top mark.Open) [] (frame top 0 ∷ [])
 begun all top h =
     let n = length all in
     let here : top < length (replicate n mark.New) = omega (arith, length-replicate n mark.New) in
+    let new : (x : ℕ) → mark_of (replicate n mark.New) x ≡ mark.New = λ x. all_new n x mark.New in
     let whole : n - 0 ≡ n = omega arith in
     record {
       count = length-set (replicate n mark.New) top mark.Open ∙ length-replicate n mark.New;
       faults = append-nil (faults_from all (n - 0) (top ∷ []) top 0) ∙ ap (λ (k : ℕ). faults_from all k (top ∷ []) top 0) whole;
-      closed = closed_kept (replicate n mark.New) [] top here (all_new n top) (λ x. ap is_closed (all_new n x));
+      closed = closed_kept (replicate n mark.New) [] top here (new top) (λ x. ap is_closed (new x));
       opened = λ m. one_open n top m h;
       ordered = λ place m is. let e : None ≡ Some m = is in cc;
       frames = (record { within = h; fresh = refl; apart = refl; passed = tt }, tt);
-      depth = omega (arith, total_set open_weight (replicate n mark.New) top mark.Open here, none_open n, ap open_weight (all_new n top));
+      depth = omega (arith, total_set open_weight (replicate n mark.New) top mark.Open here, none_open n, ap open_weight (new top));
       reached = or_left (top == top) false (eq-eqb top top refl);
     }
 

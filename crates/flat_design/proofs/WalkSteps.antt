@@ -1,7 +1,7 @@
 -- What holds of the walk at each of its turns.
 use Rattle.std.proofs.Common.{◌≡◌, ◌+◌, ◌-◌, ◌<◌, ◌≤◌, ◌||◌, ◌==◌, inl, inr, ℕ, zero, suc, Bool, true, false, List, [], ◌∷◌, ◌++◌, map, length, take, drop, set, replicate, slice_get, Some, refl, sym, ◌∙◌, ap, subst, arith}
 use Rattle.std.specs.Prelude.{⊤}
-use Rattle.std.proofs.lemmas.Bool.{false≢true, or_cases, or_left, or_right, eqb-true}
+use Rattle.std.proofs.lemmas.Bool.{false≢true, or_cases, or_left, or_right, eqb-true, ne_eqb}
 use Rattle.std.proofs.lemmas.List.{get_or-set_same, get_or-set_other}
 use Rattle.std.proofs.lemmas.List.Folds.{list_any-append}
 use Rattle.std.proofs.Math.Bool.{or-false}
@@ -40,6 +40,9 @@ in_take_in (x ∷ xs) (suc q) e h =
 
 pub in_push : (xs : List ℕ) (x e : ℕ) → is_in (xs ++ x ∷ []) e ≡ (is_in xs e || (x == e))
 in_push xs x e = list_any-append (λ (other : ℕ). other == e) xs (x ∷ []) ∙ ap (λ (t : Bool). is_in xs e || t) (or-false (x == e))
+
+pub in_push_other : (xs : List ℕ) (m x : ℕ) → (m ≡ x → ⊥) → is_in (xs ++ m ∷ []) x ≡ is_in xs x
+in_push_other xs m x apart = in_push xs m x ∙ (ap (λ (b : Bool). is_in xs x || b) (ne_eqb m x apart) ∙ or-false (is_in xs x))
 
 pub in_push_left : (xs : List ℕ) (x e : ℕ) → is_in xs e ≡ true → is_in (xs ++ x ∷ []) e ≡ true
 in_push_left xs x e h = in_push xs x e ∙ or_left (is_in xs e) (x == e) h
@@ -83,11 +86,6 @@ few_open (mark.Closed ∷ marks) = let e = few_open marks in omega arith
 pub none_open : (n : ℕ) → total open_weight (replicate n mark.New) ≡ 0
 none_open zero = refl
 none_open (suc n) = let e = none_open n in omega arith
-
-pub all_new : (n m : ℕ) → mark_of (replicate n mark.New) m ≡ mark.New
-all_new zero m = refl
-all_new (suc n) zero = refl
-all_new (suc n) (suc m) = all_new n m
 
 pub same_mark : (marks : List Mark) (i : ℕ) (mk : Mark) → i < length marks → mark_of (set marks i mk) i ≡ mk
 same_mark marks i mk h = get_or-set_same marks i mk mark.New h

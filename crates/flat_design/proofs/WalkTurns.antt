@@ -1,6 +1,6 @@
 -- What a turn of the walk leaves where a module is opened.
 use Rattle.std.proofs.Common.{◌≡◌, ◌+◌, ◌-◌, ◌<◌, ◌||◌, ◌==◌, inl, inr, ℕ, zero, suc, true, false, List, [], ◌∷◌, ◌++◌, length, take, drop, set, slice_get, Some, None, refl, sym, ◌∙◌, ap, subst, arith}
-use Rattle.std.proofs.lemmas.Bool.{or_cases, or_left, or_right, eq-eqb, ne_eqb, cases_eq}
+use Rattle.std.proofs.lemmas.Bool.{or_cases, or_left, or_right, cases_eq}
 use Rattle.std.proofs.lemmas.List.{append_assoc, drop-drop, length-set}
 use Rattle.std.proofs.lemmas.Option.{get_or_from_slice_get, slice_get_within}
 use Rattle.std.specs.List.{All, AllByRecursion}
@@ -12,6 +12,7 @@ use Rattle.flat_design.specs.declared.walk.Mark.TheVariants as mark
 use Rattle.flat_design.specs.declared.walk.Step.{Step}
 use Rattle.flat_design.specs.declared.walk.Step.TheVariants as step
 use Rattle.flat_design.specs.Walk.{IsOf, IsWithin, faults_along, faults_below, faults_from, frame, halt_from, is_in, steps_of}
+use Rattle.flat_design.proofs.MarkFacts.{marked_more}
 use Rattle.flat_design.proofs.WalkFacts.{is_closed, is_open, mark_of}
 use Rattle.flat_design.proofs.WalkSteps.{IsFrame, TurnOf, Walking, around_of, enough, faults_suc, inner_of, left, left_is, left_outside, modules_in, open_weight, other_mark, same_mark, total, total_set, turn, weight}
 
@@ -31,18 +32,6 @@ get_drop steps zero skip n s e h = let same : n ≡ skip = omega arith in rw sam
 get_drop [] (suc next) skip n s e h = let bad : None ≡ Some s = h in cc
 get_drop (one ∷ rest) (suc next) skip zero s e h = absurd (omega arith)
 get_drop (one ∷ rest) (suc next) skip (suc n) s e h = get_drop rest next skip n s (omega arith) h
-
-pub in_other : (x y : ℕ) (xs : List ℕ) → (x ≡ y → ⊥) → is_in (x ∷ xs) y ≡ is_in xs y
-in_other x y xs ne = rw (ne_eqb x y ne) refl
-
-pub opened_step : (marks : List Mark) (modules : List ℕ) (e : ℕ) → e < length marks → ((m : ℕ) → is_open (mark_of marks m) ≡ is_in modules m)
-    → (m : ℕ) → is_open (mark_of (set marks e mark.Open) m) ≡ is_in (e ∷ modules) m
-opened_step marks modules e h opened m =
-    elim (cases_eq e m) [
-      | inl same ↦ ap is_open (subst (λ (n : ℕ). mark_of (set marks e mark.Open) n ≡ mark.Open) same (same_mark marks e mark.Open h))
-          ∙ sym (or_left (e == m) (is_in modules m) (eq-eqb e m same))
-      | inr apart ↦ ap is_open (other_mark marks e m mark.Open apart) ∙ (opened m ∙ sym (in_other e m modules apart))
-    ]
 
 pub closed_kept : (marks : List Mark) (order : List ℕ) (e : ℕ) → e < length marks → mark_of marks e ≡ mark.New
     → ((m : ℕ) → is_closed (mark_of marks m) ≡ is_in order m) → (m : ℕ) → is_closed (mark_of (set marks e mark.Open) m) ≡ is_in order m
@@ -96,7 +85,7 @@ turn_open all top marks order f outer at e w is within =
       count = length-set marks e mark.Open ∙ w.count;
       faults = open_faults all top marks order f outer at e s.0 s.1 s.5 w;
       closed = closed_kept marks order e here new w.closed;
-      opened = opened_step marks (modules_in (f ∷ outer)) e here w.opened;
+      opened = marked_more is_open mark.Open mark.New refl marks (modules_in (f ∷ outer)) e here w.opened;
       ordered = w.ordered;
       frames = (
         record {

@@ -24,9 +24,9 @@ use Rattle.sdc_model.specs.Instances.{Meant, Placed, PlacedCell, a_cell, a_modul
 use Rattle.sdc_model.specs.Ranges.{indices}
 use Rattle.sdc_model.specs.WellFormedDesign.{AreGoodNames, IsInCell, IsUsable, IsWellFormedCell, is_good_name, role_in_cell}
 use Rattle.sdc_model.specs.WellFormedNetlist.{IsWellFormedModule}
+use Rattle.sdc_model.proofs.ListFacts.{all_at}
 use Rattle.flat_design.proofs.ApartFacts.{get_flat, get_kept, get_map}
 use Rattle.flat_design.proofs.CellPlaces.{cell_back}
-use Rattle.flat_design.proofs.PlaceFacts.{all_at}
 use Rattle.flat_design.proofs.TerminalFacts.{zip_at}
 use Rattle.flat_design.proofs.WellFormedLists.{good_names, zip_back, zip_map}
 use Rattle.flat_design.proofs.WellFormedNames.{port_as_net}

@@ -7,7 +7,8 @@ use Rattle.std.specs.List.{AllZip, enumerate_from, filter, filter_map, flat_map,
 use Rattle.sdc_model.specs.FlatFaults.{is_among}
 use Rattle.sdc_model.specs.WellFormedDesign.{AreDistinct, AreGoodNames, is_good_name}
 use Rattle.sdc_model.specs.Words.{same_text}
-use Rattle.flat_design.proofs.ApartFacts.{get_append, get_flat, get_kept, get_map}
+use Rattle.sdc_model.proofs.ListFacts.{get_append}
+use Rattle.flat_design.proofs.ApartFacts.{get_flat, get_kept, get_map}
 use Rattle.flat_design.proofs.PlaceFacts.{all_from}
 
 -- ---- places

@@ -19,10 +19,10 @@ use Rattle.sdc_model.specs.Flattening.{NoneOfCells, NoneOfNets}
 use Rattle.sdc_model.specs.Instances.{entered, instances_of, top_spot}
 use Rattle.sdc_model.specs.WellFormedDesign.{AreGoodNames}
 use Rattle.sdc_model.specs.WellFormedNetlist.{IsNetOfPort, IsWellFormedModule}
+use Rattle.sdc_model.proofs.ListFacts.{front_at}
 use Rattle.flat_design.specs.Hierarchy.{bit_names, port_names, wire_names}
 use Rattle.flat_design.proofs.ApartFacts.{get_map}
 use Rattle.flat_design.proofs.NameFacts.{names_in}
-use Rattle.flat_design.proofs.NumberFacts.{front_at}
 use Rattle.flat_design.proofs.PinFacts.{ports_names_are}
 use Rattle.flat_design.proofs.RangeFacts.{map_at}
 use Rattle.flat_design.proofs.WellFormedLists.{good_names, zip_map}

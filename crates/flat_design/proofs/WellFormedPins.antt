@@ -9,8 +9,9 @@ use Rattle.sdc_model.specs.Connections.{connected, names_of, pins_of}
 use Rattle.sdc_model.specs.FlatDesign.{FlatCell, FlatPin, cell_pin, cell_pins, flat, port_pins}
 use Rattle.sdc_model.specs.FlatNets.{connected_pins}
 use Rattle.sdc_model.specs.Instances.{PlacedCell, cells_of}
+use Rattle.sdc_model.proofs.ListFacts.{get_append}
 use Rattle.flat_design.specs.Layout.{pins_in}
-use Rattle.flat_design.proofs.ApartFacts.{get_append, get_flat, get_map}
+use Rattle.flat_design.proofs.ApartFacts.{get_flat, get_map}
 use Rattle.flat_design.proofs.CellPlaces.{cell_back, cell_there, flat_cell}
 use Rattle.flat_design.proofs.NumberFacts.{behind_at, flat_at}
 use Rattle.flat_design.proofs.PinCounts.{cells_length}

@@ -19,10 +19,10 @@ use Rattle.sdc_model.specs.FlatNets.{NetBit, Origin, PinPlace, bit_of, feeds_of,
 use Rattle.sdc_model.specs.Instances.{PlacedCell, cell_at, cells_of, instances_of, meant, path_of, top_spot}
 use Rattle.sdc_model.specs.WellFormedDesign.{IsDriver, role_in_cell}
 use Rattle.sdc_model.specs.WellFormedNetlist.{IsNetOfPort, IsWellFormedModule}
+use Rattle.sdc_model.proofs.ListFacts.{front_at}
 use Rattle.flat_design.proofs.ApartFacts.{Apart, apart_kept, get_map}
 use Rattle.flat_design.proofs.CellPlaces.{cell_back}
 use Rattle.flat_design.proofs.HierarchyFacts.{one_at}
-use Rattle.flat_design.proofs.NumberFacts.{front_at}
 use Rattle.flat_design.proofs.PathsApart.{below_apart}
 use Rattle.flat_design.proofs.PlaceFacts.{all_from}
 use Rattle.flat_design.proofs.RangeFacts.{map_at}

@@ -3,12 +3,12 @@ use Rattle.std.proofs.lemmas.Result.{IfOk-weaker}
 use Rattle.std.specs.List.{flat_map, zip}
 use Rattle.sdc_model.specs.Connections.{connected, names_of, ports_of}
 use Rattle.sdc_model.specs.FlatNets.{boundary_feeds, port_feeds, top_port_feeds}
+use Rattle.sdc_model.proofs.ListFacts.{element_at}
 use Rattle.flat_design.specs.declared.layout.SpotRow.{SpotRow}
 use Rattle.flat_design.specs.Feeds.{Adds}
 use Rattle.flat_design.specs.Hierarchy.{spots_in}
 use Rattle.flat_design.specs.Layout.{IsOpenedBy}
 use Rattle.flat_design.proofs.AllFeedFacts.{boundary_opened, boundary_top, opened_there, top_found}
-use Rattle.flat_design.proofs.PlaceFacts.{get_within}
 use Rattle.flat_design.proofs.all_feeds.add_ports.Goals as goal
 
 pub returns-in-None : goal.returns-in-None
@@ -25,14 +25,14 @@ pub add_boundary-requires-clause-inner : goal.add_boundary-requires-clause-inner
 add_boundary-requires-clause-inner c =
     let spots = spots_in c.args.design.now in
     let low : c.args.spot < length spots = omega (arith, c.requires.within, c.requires.is.layout.spot_count) in
-    get_within spots c.args.spot low
+    element_at spots c.args.spot low
 
 pub add_boundary-requires-clause-there : goal.add_boundary-requires-clause-there
 add_boundary-requires-clause-there c =
     let design = c.args.design.now in
     let spots = spots_in design in
     let low : c.args.spot < length spots = omega (arith, c.requires.within, c.requires.is.layout.spot_count) in
-    let here = get_within spots c.args.spot low in
+    let here = element_at spots c.args.spot low in
     let row_at : slice_get design.layout.spots c.args.spot ≡ Some c.item_at-row.result.now =
     ap (λ (xs : List SpotRow). slice_get xs c.args.spot) (sym c.as_slice.ensures) ∙ c.item_at-row.ensures in
     let own : IsOpenedBy spots here.0 c.in-Some.at = opened_there design c.args.spot c.item_at-row.result.now here.0 c.in-Some.at c.requires.is row_at here.1 c.in-Some.is in

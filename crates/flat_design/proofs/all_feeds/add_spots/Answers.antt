@@ -3,9 +3,9 @@ use Rattle.std.proofs.lemmas.List.{take_all}
 use Rattle.std.specs.List.{flat_map}
 use Rattle.sdc_model.specs.FlatNets.{spot_feeds}
 use Rattle.sdc_model.specs.Instances.{Spot}
+use Rattle.sdc_model.proofs.ListFacts.{element_at}
 use Rattle.flat_design.specs.Feeds.{Adds, IsFeed}
 use Rattle.flat_design.specs.Hierarchy.{spots_in}
-use Rattle.flat_design.proofs.PlaceFacts.{get_within}
 use Rattle.flat_design.proofs.RowFacts.{rows_flat}
 use Rattle.flat_design.proofs.all_feeds.add_spots.Goals as goal
 
@@ -13,7 +13,7 @@ pub loop-place-preserved : goal.loop-place-preserved
 loop-place-preserved c =
     let spots = spots_in c.args.design.now in
     let low : c.loop-place.place < length spots = omega (arith, c.loop-place-test.true, c.len-place-end.ensures, c.requires.is.layout.spot_count) in
-    let here = get_within spots c.loop-place.place low in
+    let here = element_at spots c.loop-place.place low in
     rows_flat (IsFeed c.args.design.now) spot_feeds spots c.loop-place.place here.0 c.args.rows.now c.loop-place.rows c.add_spot.new.rows here.1
     (c.in_ok-add_spot.ensures here.0 here.1) c.loop-place.invariant
 

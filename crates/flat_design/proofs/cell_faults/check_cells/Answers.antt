@@ -1,11 +1,11 @@
 use Rattle.std.proofs.Common.{◌<◌, ◌≤◌, length, arith}
 use Rattle.sdc_model.specs.FlatDesign.{FlatCell, port_pins}
 use Rattle.sdc_model.specs.FlatFaults.{CellHas, cell_line}
+use Rattle.sdc_model.proofs.ListFacts.{element_at}
 use Rattle.flat_design.specs.Hierarchy.{cells_in}
 use Rattle.flat_design.specs.NamedFaults.{flat_of}
 use Rattle.flat_design.proofs.CellPlaces.{cells_count}
 use Rattle.flat_design.proofs.FirstFaults.{first_here, none_all, none_more}
-use Rattle.flat_design.proofs.PlaceFacts.{get_within}
 use Rattle.flat_design.proofs.cell_faults.check_cells.Goals as goal
 
 pub returns-in-Some : goal.returns-in-Some
@@ -14,7 +14,7 @@ returns-in-Some c =
     let n = c.loop-place.place in
     let count = cells_count (length (port_pins c.args.design.now.top.now)) (cells_in c.args.design.now) in
     let low : n < length f.cells = omega (arith, c.loop-place-test.true, c.len-place-end.ensures, c.requires.is.layout.cell_count, count) in
-    let cell = get_within f.cells n low in
+    let cell = element_at f.cells n low in
     first_here FlatCell (CellHas f) cell_line f.cells n cell.0 (record { line = c.line_at-line.result; kind = c.in-Some.kind }) cell.1
     (c.line_at-line.ensures cell.0 cell.1) (c.in-Some.ensures cell.0 cell.1) c.loop-place.invariant
 
@@ -24,7 +24,7 @@ loop-place-preserved c =
     let n = c.loop-place.place in
     let count = cells_count (length (port_pins c.args.design.now.top.now)) (cells_in c.args.design.now) in
     let low : n < length f.cells = omega (arith, c.loop-place-test.true, c.len-place-end.ensures, c.requires.is.layout.cell_count, count) in
-    let cell = get_within f.cells n low in
+    let cell = element_at f.cells n low in
     none_more FlatCell (CellHas f) f.cells n cell.0 cell.1 (c.in_default.ensures cell.0 cell.1) c.loop-place.invariant
 
 pub returns : goal.returns

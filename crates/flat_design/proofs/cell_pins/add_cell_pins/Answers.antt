@@ -5,10 +5,10 @@ use Rattle.source_types.specs.declared.library_cells.LibPin.{LibPin}
 use Rattle.source_types.specs.declared.netlists.Bit.{Bit}
 use Rattle.sdc_model.specs.FlatDesign.{cell_pin}
 use Rattle.sdc_model.specs.FlatNets.{connected_pins}
+use Rattle.sdc_model.proofs.ListFacts.{element_at}
 use Rattle.flat_design.specs.Connected.{shown}
 use Rattle.flat_design.specs.PinRows.{AddsPins, IsPinRow}
 use Rattle.flat_design.proofs.PinCounts.{pins_connected}
-use Rattle.flat_design.proofs.PlaceFacts.{get_within}
 use Rattle.flat_design.proofs.RowFacts.{rows_mapped}
 use Rattle.flat_design.proofs.cell_pins.add_cell_pins.Goals as goal
 
@@ -21,7 +21,7 @@ pub loop-place-preserved : goal.loop-place-preserved
 loop-place-preserved c = λ found at.
     let own = ap (λ (k : LibCell). length k.pins) (c.kind_at-kind.ensures found at) in
     let low : c.loop-place.place < length found.kind.pins = omega (arith, own, c.loop-place-test.true, c.len-place-end.ensures) in
-    let pin = get_within found.kind.pins c.loop-place.place low in
+    let pin = element_at found.kind.pins c.loop-place.place low in
     let pair = c.connection_at-connection.ensures.connected found pin.0 at pin.1 in
     rows_mapped (IsPinRow c.args.design.now) (cell_pin c.args.cell found) (connected_pins found) c.loop-place.place
     ((c.loop-place.place, pin.0), shown c.connection_at-connection.result) c.args.rows.now c.loop-place.rows c.push.new.self _ pair

@@ -4,10 +4,10 @@ use Rattle.std.proofs.lemmas.List.FromFn.{length-enumerate_from}
 use Rattle.std.specs.List.{enumerate_from, flat_map}
 use Rattle.sdc_model.specs.FlatDesign.{cell_pins}
 use Rattle.sdc_model.specs.Instances.{PlacedCell}
+use Rattle.sdc_model.proofs.ListFacts.{element_at}
 use Rattle.flat_design.specs.Hierarchy.{cells_in}
 use Rattle.flat_design.specs.PinRows.{AddsPins, IsPinRow}
 use Rattle.flat_design.proofs.PinNumbers.{numbered_at}
-use Rattle.flat_design.proofs.PlaceFacts.{get_within}
 use Rattle.flat_design.proofs.RowFacts.{rows_flat}
 use Rattle.flat_design.proofs.cell_pins.add_cells.Goals as goal
 
@@ -16,7 +16,7 @@ loop-cell-preserved c =
     let cells = cells_in c.args.design.now in
     let count = c.requires.is.layout.cell_count in
     let low : c.loop-cell.cell < length cells = omega (arith, count, c.loop-cell-test.true, c.len-cell-end.ensures) in
-    let found = get_within cells c.loop-cell.cell low in
+    let found = element_at cells c.loop-cell.cell low in
     let plus : 0 + c.loop-cell.cell ≡ c.loop-cell.cell = omega arith in
     let at : slice_get (enumerate_from 0 cells) c.loop-cell.cell ≡ Some (c.loop-cell.cell, found.0) =
     numbered_at 0 cells c.loop-cell.cell found.0 found.1 ∙ ap (λ (k : ℕ). Some (k, found.0)) plus in

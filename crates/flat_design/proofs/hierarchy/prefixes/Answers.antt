@@ -1,7 +1,8 @@
 use Rattle.std.proofs.Common.{◌<◌, ◌≤◌, ℕ, length, map, take, slice_get, sym, ◌∙◌, ap, arith}
 use Rattle.std.proofs.lemmas.List.{length_push, take_all}
+use Rattle.sdc_model.proofs.ListFacts.{element_at}
 use Rattle.flat_design.specs.Hierarchy.{prefix_in, spots_in}
-use Rattle.flat_design.proofs.PlaceFacts.{get_within, mapped_more}
+use Rattle.flat_design.proofs.PlaceFacts.{mapped_more}
 use Rattle.flat_design.proofs.hierarchy.prefixes.Goals as goal
 
 pub next_prefix-requires-clause-within : goal.next_prefix-requires-clause-within
@@ -19,7 +20,7 @@ loop-place-preserved c =
     let spots = spots_in c.args.design.now in
     let n = c.loop-place._place in
     let low : n < length spots = omega (arith, c.loop-place-test.true, c.len-place-end.ensures, c.requires.layout.spot_count) in
-    let here = get_within spots n low in
+    let here = element_at spots n low in
     let more = length_push c.loop-place.all c.in_ok-prefix.prefix in (
       c.in_ok-push.ensures.ok ∙ mapped_more prefix_in spots n here.0 c.in_ok-prefix.prefix c.loop-place.all here.1
           (c.in_ok-prefix.ensures here.0 (ap (slice_get spots) c.loop-place.invariant.1 ∙ here.1)) c.loop-place.invariant.0,

@@ -4,10 +4,10 @@ use Rattle.std.specs.List.{flat_map}
 use Rattle.source_types.specs.declared.netlists.Module.{Module}
 use Rattle.sdc_model.specs.FlatNets.{net_name, nets_in}
 use Rattle.sdc_model.specs.Instances.{Spot}
+use Rattle.sdc_model.proofs.ListFacts.{element_at}
 use Rattle.flat_design.specs.Hierarchy.{prefix_in, spots_in}
 use Rattle.flat_design.proofs.HierarchyFacts.{prefix_there}
 use Rattle.flat_design.proofs.NameFacts.{names_more}
-use Rattle.flat_design.proofs.PlaceFacts.{get_within}
 use Rattle.flat_design.proofs.object_names.net_names.Goals as goal
 
 pub body_at-body-requires-clause-within : goal.body_at-body-requires-clause-within
@@ -23,7 +23,7 @@ loop-place-preserved c =
     let same = ap length c.requires.prefixes in
     let count = length-map spots prefix_in in
     let low : n < length spots = omega (arith, c.loop-place-test.true, same, count) in
-    let here = get_within spots n low in
+    let here = element_at spots n low in
     let prefix : c.as_str.result.now ≡ here.0.prefix =
     c.as_str.ensures ∙ prefix_there c.args.prefixes.now spots n here.0 c.item_at-prefix.result.now c.requires.prefixes here.1 c.item_at-prefix.ensures in
     let nets = c.as_slice.ensures ∙ ap (λ (m : Module). m.nets) (c.body_at-body.ensures here.0 here.1) in

@@ -1,6 +1,7 @@
 use Rattle.std.proofs.Common.{◌≡◌, ◌+◌, List, Option, slice_get, Some, sym, ◌∙◌, ap, subst, arith}
 use Rattle.sdc_model.specs.FlatNets.{from_pin, net_at, pin_of}
 use Rattle.sdc_model.specs.Instances.{PlacedCell, path_of}
+use Rattle.sdc_model.proofs.ListFacts.{all_at}
 use Rattle.flat_design.specs.declared.feeds.FeedRow.{FeedRow}
 use Rattle.flat_design.specs.declared.feeds.Feeder.TheVariants as feeder
 use Rattle.flat_design.specs.declared.layout.CellRow.{CellRow}
@@ -9,7 +10,6 @@ use Rattle.flat_design.specs.Hierarchy.{cells_in, spots_in}
 use Rattle.flat_design.proofs.AddedFeeds.{adds_more}
 use Rattle.flat_design.proofs.FeedFacts.{both_of}
 use Rattle.flat_design.proofs.HierarchyFacts.{one_at}
-use Rattle.flat_design.proofs.PlaceFacts.{all_at}
 use Rattle.flat_design.proofs.PinNumbers.{pin_number, pin_small}
 use Rattle.flat_design.proofs.output_feeds.add_output.Goals as goal
 

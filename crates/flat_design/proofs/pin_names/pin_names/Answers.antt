@@ -4,10 +4,10 @@ use Rattle.std.specs.List.{flat_map}
 use Rattle.source_types.specs.declared.library_cells.LibCell.{LibCell}
 use Rattle.source_types.specs.declared.netlists.Port.{Port}
 use Rattle.sdc_model.specs.Instances.{PlacedCell}
+use Rattle.sdc_model.proofs.ListFacts.{element_at}
 use Rattle.flat_design.specs.Hierarchy.{cell_name, cells_in, port_names}
 use Rattle.flat_design.proofs.HierarchyFacts.{one_at}
 use Rattle.flat_design.proofs.PinFacts.{all_names_are, names_of_pins, pins_more}
-use Rattle.flat_design.proofs.PlaceFacts.{get_within}
 use Rattle.flat_design.proofs.RangeFacts.{map_at}
 use Rattle.flat_design.proofs.pin_names.pin_names.Goals as goal
 
@@ -28,7 +28,7 @@ loop-place-preserved c =
     let same = ap length c.requires.cells in
     let count = length-map cells cell_name in
     let low : n < length cells = omega (arith, c.loop-place-test.true, same, count) in
-    let here = get_within cells n low in
+    let here = element_at cells n low in
     let name : c.item_at-cell.result.now ≡ cell_name here.0 =
     one_at c.args.cell_names.now n c.item_at-cell.result.now (cell_name here.0) c.item_at-cell.ensures
     (ap (λ (xs : List (List ℕ)). slice_get xs n) c.requires.cells ∙ map_at cell_name cells n here.0 here.1) in

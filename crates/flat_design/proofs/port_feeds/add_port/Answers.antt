@@ -5,9 +5,9 @@ use Rattle.source_types.specs.declared.netlists.Bit.{Bit}
 use Rattle.source_types.specs.declared.netlists.Bit.TheVariants as bits
 use Rattle.sdc_model.specs.FlatNets.{port_bits}
 use Rattle.sdc_model.specs.Ranges.{indices}
+use Rattle.sdc_model.proofs.ListFacts.{all_at}
 use Rattle.flat_design.specs.Feeds.{Adds, HasBit}
 use Rattle.flat_design.proofs.AddedFeeds.{adds_more, zip_get}
-use Rattle.flat_design.proofs.PlaceFacts.{all_at}
 use Rattle.flat_design.proofs.PortFacts.{pair_across, pairs_length, port_bit_there}
 use Rattle.flat_design.proofs.RangeFacts.{map_at}
 use Rattle.flat_design.proofs.port_feeds.add_port.Goals as goal

@@ -2,8 +2,8 @@ use Rattle.std.proofs.Common.{◌≤◌, List, ℕ, Option, length, map, refl, s
 use Rattle.std.proofs.lemmas.List.{take_all}
 use Rattle.sdc_model.specs.FlatDesign.{port_pin}
 use Rattle.sdc_model.specs.Ranges.{indices}
+use Rattle.sdc_model.proofs.RangeFacts.{indices_length}
 use Rattle.flat_design.specs.PinRows.{AddsPins, IsPinRow}
-use Rattle.flat_design.proofs.CountFacts.{indices_length}
 use Rattle.flat_design.proofs.PortFacts.{port_bit_there}
 use Rattle.flat_design.proofs.RowFacts.{rows_mapped}
 use Rattle.flat_design.proofs.port_pins.add_port.Goals as goal

@@ -3,9 +3,9 @@ use Rattle.source_types.specs.declared.netlists.Assign.{Assign}
 use Rattle.source_types.specs.declared.netlists.Module.{Module}
 use Rattle.sdc_model.specs.FlatNets.{assign_feeds}
 use Rattle.sdc_model.specs.WellFormedNetlist.{IsAssignOf}
+use Rattle.sdc_model.proofs.ListFacts.{all_at, element_at}
 use Rattle.flat_design.specs.Feeds.{IsFeed}
 use Rattle.flat_design.specs.Hierarchy.{spots_in}
-use Rattle.flat_design.proofs.PlaceFacts.{all_at, get_within}
 use Rattle.flat_design.proofs.RowFacts.{rows_flat}
 use Rattle.flat_design.proofs.spot_feeds.add_assigns.Goals as goal
 
@@ -13,7 +13,7 @@ pub add_assign-requires-clause-there : goal.add_assign-requires-clause-there
 add_assign-requires-clause-there c =
     let spots = spots_in c.args.design.now in
     let low : c.args.spot < length spots = omega (arith, c.requires.within, c.requires.is.layout.spot_count) in
-    let here = get_within spots c.args.spot low in
+    let here = element_at spots c.args.spot low in
     let own : c.body_at-body.result.now ≡ here.0.body = c.body_at-body.ensures here.0 here.1 in
     let at : slice_get here.0.body.assigns c.loop-place.place ≡ Some c.item_at-assign.result.now =
     ap (λ (m : Module). slice_get m.assigns c.loop-place.place) (sym own)

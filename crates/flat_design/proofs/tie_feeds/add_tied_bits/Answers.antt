@@ -3,9 +3,9 @@ use Rattle.std.proofs.lemmas.List.{take_all}
 use Rattle.sdc_model.specs.Instances.{Spot}
 use Rattle.sdc_model.specs.Ranges.{indices}
 use Rattle.sdc_model.specs.WellFormedNetlist.{IsNetBit}
+use Rattle.sdc_model.proofs.RangeFacts.{indices_length}
 use Rattle.flat_design.specs.Feeds.{Adds, IsFeed, tied_bit}
 use Rattle.flat_design.specs.Hierarchy.{spots_in}
-use Rattle.flat_design.proofs.CountFacts.{indices_length}
 use Rattle.flat_design.proofs.HierarchyFacts.{one_at}
 use Rattle.flat_design.proofs.RowFacts.{rows_mapped}
 use Rattle.flat_design.proofs.TieFacts.{bit_there}

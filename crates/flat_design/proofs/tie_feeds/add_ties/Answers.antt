@@ -2,9 +2,9 @@ use Rattle.std.proofs.Common.{◌≡◌, ◌<◌, List, length, slice_get, Some,
 use Rattle.source_types.specs.declared.netlists.Module.{Module}
 use Rattle.source_types.specs.declared.netlists.Wire.{Wire}
 use Rattle.sdc_model.specs.FlatNets.{tie_feeds}
+use Rattle.sdc_model.proofs.ListFacts.{contains_at, element_at}
 use Rattle.flat_design.specs.Feeds.{IsFeed}
 use Rattle.flat_design.specs.Hierarchy.{spots_in}
-use Rattle.flat_design.proofs.PlaceFacts.{contains_at, get_within}
 use Rattle.flat_design.proofs.RowFacts.{rows_flat}
 use Rattle.flat_design.proofs.tie_feeds.add_ties.Goals as goal
 
@@ -12,7 +12,7 @@ pub add_tie-requires-clause-there : goal.add_tie-requires-clause-there
 add_tie-requires-clause-there c =
     let spots = spots_in c.args.design.now in
     let low : c.args.spot < length spots = omega (arith, c.requires.within, c.requires.is.layout.spot_count) in
-    let here = get_within spots c.args.spot low in
+    let here = element_at spots c.args.spot low in
     let own : c.body_at-body.result.now ≡ here.0.body = c.body_at-body.ensures here.0 here.1 in
     let at : slice_get here.0.body.nets c.loop-place.place ≡ Some c.item_at-wire.result.now =
     ap (λ (m : Module). slice_get m.nets c.loop-place.place) (sym own)

@@ -7,7 +7,7 @@ use Rattle.sdc_model.specs.WellFormedNetlist.{IsNetBit}
 use Rattle.flat_design.specs.Feeds.{Adds, IsFeed, input_feed}
 use Rattle.flat_design.specs.Hierarchy.{spots_in}
 use Rattle.sdc_model.specs.Instances.{Spot}
-use Rattle.flat_design.proofs.CountFacts.{indices_length}
+use Rattle.sdc_model.proofs.RangeFacts.{indices_length}
 use Rattle.flat_design.proofs.HierarchyFacts.{one_at}
 use Rattle.flat_design.proofs.PinNumbers.{pin_small}
 use Rattle.flat_design.proofs.PortFacts.{port_bit_there}
