@@ -20,7 +20,8 @@ pub fn times_are_nearest()
     ensures range { (n : Number) (unit : ℤ) → TimeRangeIsExact n unit }
 {}
 
-/// The text of a time is digits with at most a minus and a point, and is read back as that time.
+/// The text of a time is digits with at most a minus and a point, and that of a time up to 10^16 fs is read back as
+/// that time.
 pub fn time_texts_read_back()
     ensures back { (fs unit : ℤ) → TimeTextReadsBack fs unit }
     ensures plain { (fs unit : ℤ) → TimeTextIsPlain fs unit }

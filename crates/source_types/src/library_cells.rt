@@ -11,7 +11,7 @@ use std::alloc::Global;
 pub enum Direction {
     Input,
     Output,
-    /// `inout` or `internal`.
+    /// Any other word, as `inout` or `internal`, or no direction at all.
     Other,
 }
 
