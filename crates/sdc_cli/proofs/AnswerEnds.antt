@@ -74,7 +74,7 @@ pub read_fault_ends : (line : Option CommandLine) (before after : ℕ) (answer e
 read_fault_ends line before after answer ended e fits = ends_with (ReadFaultFits line before after) answer ended e fits (read_fault_memory line before after)
 
 -- the line is written behind the output, and its faults are counted on
-write_fault_later : (before now after : ℕ) (answer : Status) → before ≤ now → now ≤ after → WriteFaultFits before now answer → WriteFaultFits before after answer
+pub write_fault_later : (before now after : ℕ) (answer : Status) → before ≤ now → now ≤ after → WriteFaultFits before now answer → WriteFaultFits before after answer
 write_fault_later before now after status.Done first second fits = tt
 write_fault_later before now after status.Usage first second fits = tt
 write_fault_later before now after (status.Source fault) first second fits = tt

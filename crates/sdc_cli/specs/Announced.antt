@@ -6,7 +6,7 @@ use Rattle.sdc_base.specs.Files.{Reading}
 use Rattle.source_types.specs.declared.answers.Status.{Status}
 use Rattle.source_types.specs.declared.answers.Status.TheVariants as status
 use Rattle.source_types.specs.declared.command_lines.CommandLine.{CommandLine}
-use Rattle.sdc_model.specs.Answers.{CauseFits, IsLineFault, OnModes, ReadFaultFits, TooLargeFits, UsageFits}
+use Rattle.sdc_model.specs.Answers.{CauseFits, IsLineFault, OnModes, ReadFaultFits, TooLargeFits, UsageFits, WriteFaultFits}
 use Rattle.sdc_model.specs.FaultLine.{LeavesFaults, fault_line, with_faults}
 use Rattle.sdc_cli.specs.Outputs.{IsOutputOf, IsTooLargeOf}
 
@@ -26,11 +26,12 @@ abbrev pub NamesWriteFault : Type 0 → Status → Written → Written → Type 
 NamesWriteFault Failed status.WriteFault before after = (after.faults ≡ before.faults ++ fault_line None status.WriteFault) ⊎ Failed
 NamesWriteFault Failed ended before after = Unit {0}
 
--- an answer with its causes in the words, in the files and in the counts of the faults of the inputs
-abbrev pub HasCauses : Option Reading → ℕ → ℕ → Option CommandLine → Status → Type 0
-HasCauses told before after line answer =
+-- an answer with its causes in the words, in the files and in the counts of the faults of the inputs and of the outputs
+abbrev pub HasCauses : Option Reading → ℕ → ℕ → ℕ → ℕ → Option CommandLine → Status → Type 0
+HasCauses told reading read writing written line answer =
     UsageFits line answer
     × CauseFits (λ output. OnModes (λ l modes. IsOutputOf l modes output) told line) (IsLineFault told line)
     (λ bytes. OnModes (λ l modes. IsTooLargeOf l modes bytes) told line) answer
     × TooLargeFits line answer
-    × ReadFaultFits line before after answer
+    × ReadFaultFits line reading read answer
+    × WriteFaultFits writing written answer

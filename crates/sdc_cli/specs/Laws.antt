@@ -1,5 +1,6 @@
 -- That the files of a command line have one outcome, and modes one text of edges and one merge. This project's own rule
--- of reading the contract of a run: an answer is given exactly where its cause stands, and what is written is the only one.
+-- of reading the contract of a run: an answer is given exactly where its cause stands, and what is written is the only
+-- one.
 use Rattle.std.specs.Prelude.{◌≡◌, ℕ, List, Some, Result, Ok}
 use Rattle.sdc_base.specs.declared.outside.NamedBytes.{NamedBytes}
 use Rattle.sdc_base.specs.Files.{Reading}

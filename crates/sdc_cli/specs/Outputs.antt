@@ -1,5 +1,6 @@
 -- What a run of each command line writes, of the modes that its files say. This project's own.
--- `edges` writes the reports of its files; `merge` writes the merged file and its report, or refuses a merged text that is too long.
+-- `edges` writes the reports of its files; `merge` writes the merged file and its report, or refuses a merged text that
+-- is too long.
 use Rattle.std.specs.Prelude.{◌≡◌, ℕ, List, [], Some, Result, Ok, Err}
 use Rattle.sdc_base.specs.Files.{Reading}
 use Rattle.source_types.specs.declared.answers.Status.{Status}

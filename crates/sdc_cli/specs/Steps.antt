@@ -1,5 +1,5 @@
--- What the steps of a run answer and leave, one behind the other. Small words for this crate's private functions: what the
--- whole run answers and leaves is said by `Answers` of sdc_model.
+-- What the steps of a run answer and leave, one behind the other. Small words for this crate's private functions: what
+-- the whole run answers and leaves is said by `Answers` of sdc_model.
 use Rattle.std.specs.Prelude.{◌≡◌, ◌⊎◌, ℕ, List, Option, Some, Result, Ok, Err}
 use Rattle.sdc_base.specs.declared.outside.Refusal.{Refusal}
 use Rattle.sdc_base.specs.Channels.{Written}

@@ -60,7 +60,8 @@ pub fn run<I: Inputs, O: Outputs>(
     // That line, whole, or a front of it where a write failed; after want of memory a front of one.
     ensures names { let line = command_line (words_of words.now) in
         OnTold (λ before after. LeavesFaults line
-        (HasCauses (I.told inputs.old) (I.faults inputs.old) (I.faults inputs.new) line)
+        (HasCauses (I.told inputs.old) (I.faults inputs.old) (I.faults inputs.new)
+        (O.faults outputs.old) (O.faults outputs.new) line)
         (Rose (O.faults outputs.old) (O.faults outputs.new)) result before.faults after.faults)
         (O.told outputs.old) (O.told outputs.new) }
 {
@@ -95,7 +96,8 @@ fn run_line<I: Inputs, O: Outputs>(
         before (with_faults before.faults after))
         (O.told outputs.old) (O.told outputs.new) }
     ensures names { OnTold (λ before after. LeavesFaults (Some line.now)
-        (HasCauses (I.told inputs.old) (I.faults inputs.old) (I.faults inputs.new) (Some line.now))
+        (HasCauses (I.told inputs.old) (I.faults inputs.old) (I.faults inputs.new)
+        (O.faults outputs.old) (O.faults outputs.new) (Some line.now))
         (Rose (O.faults outputs.old) (O.faults outputs.new)) result before.faults after.faults)
         (O.told outputs.old) (O.told outputs.new) }
 {

@@ -1,6 +1,7 @@
 use Rattle.std.proofs.Common.{Some}
+use Rattle.source_types.specs.declared.answers.Status.{Status}
 use Rattle.sdc_cli.specs.Announced.{HasCauses}
-use Rattle.sdc_cli.proofs.AnswerEnds.{read_fault_ends, reads_ends, rose_second, too_large_ends, usage_ends}
+use Rattle.sdc_cli.proofs.AnswerEnds.{read_fault_ends, reads_ends, rose_second, too_large_ends, usage_ends, write_fault_later}
 use Rattle.sdc_cli.proofs.RunLeaves.{leaves_faults, leaves_written}
 use Rattle.sdc_cli.proofs.tool.run_line.Goals as goal
 
@@ -26,10 +27,17 @@ returns-clause-writes g c =
 pub returns-clause-names : goal.returns-clause-names
 returns-clause-names g c =
     let told = g.I.Inputs.told in
-    let faults = g.I.Inputs.faults in
+    let reads = g.I.Inputs.faults in
+    let writes = g.O.Outputs.faults in
     let ran = c.write_line_output-status.ensures in
-    let line = Some c.args.line.now in
-    let stood : HasCauses (told c.args.inputs.now) (faults c.args.inputs.now) (faults c.write_line_output-status.new.inputs) line c.write_line_output-status.result =
-    (ran.usage, ran.cause, ran.too_large, ran.read_fault) in
-    leaves_faults _ _ line (HasCauses (told c.args.inputs.now) (faults c.args.inputs.now) (faults c.write_line_output-status.new.inputs) line) _ _ _ _ _ _ _
-    stood (rose_second _ _ _ ran.counts) ran.writes c.announce.ensures.announces
+    let answer = c.write_line_output-status.result in
+    let Causes : Status → Type 0 = HasCauses (told c.args.inputs.now) (reads c.args.inputs.now) (reads c.write_line_output-status.new.inputs)
+    (writes c.args.outputs.now) (writes c.announce.new.outputs) (Some c.args.line.now) in
+    let stood : Causes answer = (
+      ran.usage,
+      ran.cause,
+      ran.too_large,
+      ran.read_fault,
+      write_fault_later _ _ _ answer ran.counts c.announce.ensures.counts ran.write_fault,
+    ) in
+    leaves_faults _ _ (Some c.args.line.now) Causes _ _ _ _ _ _ _ stood (rose_second _ _ _ ran.counts) ran.writes c.announce.ensures.announces
