@@ -12,7 +12,7 @@ use Rattle.sdc_model.specs.ClockIdentity.{names_of, clock_with, IsMergedName, Is
 use Rattle.clock_map.specs.declared.merged.Merged.{Merged}
 use Rattle.clock_map.specs.Numbering.{RisesTo}
 use Rattle.clock_map.specs.MergedClocks.{HaveSameNames, AddsMerged, Rises, AreMerged}
-use Rattle.clock_map.proofs.NumberLists.{get_push_cases}
+use Rattle.clock_map.proofs.NumberLists.{pair_cases}
 use Rattle.clock_map.proofs.NameSets.{same_more, name_transfers}
 
 abbrev pub clock_names : List Clock → List (List ℕ)
@@ -88,26 +88,20 @@ grown : (standings : List Standing) (numbers : List ℕ) (before : List Clock) (
     → EachMerged standings numbers before waves → IsMerged standings numbers (clock_names before) (length before) clock wave
     → EachMerged standings numbers (before ++ clock ∷ []) (waves ++ wave ∷ [])
 grown standings numbers before waves clock wave long all new k c w e f =
-    elim (get_push_cases before clock k c e) [
-      | inl old ↦ elim (get_push_cases waves wave k w f) [
-        | inl old' ↦
-            let within = slice_get_within before k c old in
-            let front : take k (before ++ clock ∷ []) ≡ take k before = take-append-le k before (clock ∷ []) (omega arith) in
-            subst (λ (cs : List Clock). IsMerged standings numbers (clock_names cs) k c w) (sym front) (all k c w old old')
-        | inr new' ↦ let within = slice_get_within before k c old in let at = new'.0 in absurd (omega arith)
-      ]
-      | inr here ↦ elim (get_push_cases waves wave k w f) [
-        | inl old' ↦ let within = slice_get_within waves k w old' in let at = here.0 in absurd (omega arith)
-        | inr here' ↦
-            let front : take k (before ++ clock ∷ []) ≡ before = take_at before (clock ∷ []) k (sym here.0) in
-            let with_clock : IsMerged standings numbers (clock_names before) (length before) c wave =
-            subst (λ (x : Clock). IsMerged standings numbers (clock_names before) (length before) x wave) here.1 new in
-            let with_wave : IsMerged standings numbers (clock_names before) (length before) c w =
-            subst (λ (x : Wave). IsMerged standings numbers (clock_names before) (length before) c x) here'.1 with_clock in
-            let with_place : IsMerged standings numbers (clock_names before) k c w =
-            subst (λ (n : ℕ). IsMerged standings numbers (clock_names before) n c w) (sym here.0) with_wave in
-            subst (λ (cs : List Clock). IsMerged standings numbers (clock_names cs) k c w) (sym front) with_place
-      ]
+    elim (pair_cases before waves clock wave k c w long e f) [
+      | inl old ↦
+          let within = slice_get_within before k c old.0 in
+          let front : take k (before ++ clock ∷ []) ≡ take k before = take-append-le k before (clock ∷ []) (omega arith) in
+          subst (λ (cs : List Clock). IsMerged standings numbers (clock_names cs) k c w) (sym front) (all k c w old.0 old.1)
+      | inr here ↦
+          let front : take k (before ++ clock ∷ []) ≡ before = take_at before (clock ∷ []) k (sym here.0) in
+          let with_clock : IsMerged standings numbers (clock_names before) (length before) c wave =
+          subst (λ (x : Clock). IsMerged standings numbers (clock_names before) (length before) x wave) here.1 new in
+          let with_wave : IsMerged standings numbers (clock_names before) (length before) c w =
+          subst (λ (x : Wave). IsMerged standings numbers (clock_names before) (length before) c x) here.2 with_clock in
+          let with_place : IsMerged standings numbers (clock_names before) k c w =
+          subst (λ (n : ℕ). IsMerged standings numbers (clock_names before) n c w) (sym here.0) with_wave in
+          subst (λ (cs : List Clock). IsMerged standings numbers (clock_names cs) k c w) (sym front) with_place
     ]
 
 -- the first clock of a new number

@@ -9,7 +9,7 @@ use Rattle.std.specs.BTreeMap.{BTreeMap, get, Updates, IsUnchanged, btree_map_le
 use Rattle.std.specs.BTreeMap.{is_at}
 use Rattle.std.specs.Map.{lookup}
 use Rattle.std.proofs.lemmas.Cmp.{tied_itself}
-use Rattle.std.proofs.lemmas.Option.{same_Some, slice_get_within}
+use Rattle.std.proofs.lemmas.Option.{same_Some}
 use Rattle.std.proofs.lemmas.List.{length_push, take_more, take_all, length-take-le}
 use Rattle.timing_types.specs.declared.identities.Identity.{Identity}
 use Rattle.timing_types.specs.contracts.identities.IdentityOrd.TheImpl.Laws as identity_laws
@@ -20,32 +20,19 @@ use Rattle.clock_map.proofs.Exact.{identity_exact}
 identity_total : IsTotalOrder identity_cmp
 identity_total = identity_laws.total-law
 
--- ---- the element at a place of a list that grew
+-- ---- two lists that grew together
 
--- the element at a place is an old one, or the new one at the end
-pub get_push_cases : {X : Type 0} (xs : List X) (y : X) (p : ℕ) (x : X) → slice_get (xs ++ y ∷ []) p ≡ Some x
-    → (slice_get xs p ≡ Some x) ⊎ ((p ≡ length xs) × (y ≡ x))
-get_push_cases [] y zero x e = inr (refl, cc)
-get_push_cases [] y (suc p) x e = cc
-get_push_cases (z ∷ xs) y zero x e = inl e
-get_push_cases (z ∷ xs) y (suc p) x e =
-    elim (get_push_cases xs y p x e) [ inl old ↦ inl old | inr new ↦ inr (ap suc new.0, new.1) ]
-
--- two lists that grew together
+-- the elements at a place are two old ones, or the two new ones at the end
 pub pair_cases : {X Y : Type 0} (xs : List X) (ys : List Y) (a : X) (b : Y) (p : ℕ) (x : X) (y : Y) → length ys ≡ length xs
     → slice_get (xs ++ a ∷ []) p ≡ Some x → slice_get (ys ++ b ∷ []) p ≡ Some y
-    → ((slice_get xs p ≡ Some x) × (slice_get ys p ≡ Some y)) ⊎ ((a ≡ x) × (b ≡ y))
-pair_cases xs ys a b p x y same e f =
-    elim (get_push_cases xs a p x e) [
-      | inl old ↦ elim (get_push_cases ys b p y f) [
-        | inl old' ↦ inl (old, old')
-        | inr new' ↦ let within = slice_get_within xs p x old in let at = new'.0 in absurd (omega arith)
-      ]
-      | inr new ↦ elim (get_push_cases ys b p y f) [
-        | inl old' ↦ let within = slice_get_within ys p y old' in let at = new.0 in absurd (omega arith)
-        | inr new' ↦ inr (new.1, new'.1)
-      ]
-    ]
+    → ((slice_get xs p ≡ Some x) × (slice_get ys p ≡ Some y)) ⊎ ((p ≡ length xs) × (a ≡ x) × (b ≡ y))
+pair_cases [] [] a b zero x y same e f = inr (refl, cc, cc)
+pair_cases [] [] a b (suc p) x y same e f = cc
+pair_cases [] (y' ∷ ys) a b p x y same e f = cc
+pair_cases (x' ∷ xs) [] a b p x y same e f = cc
+pair_cases (x' ∷ xs) (y' ∷ ys) a b zero x y same e f = inl (e, f)
+pair_cases (x' ∷ xs) (y' ∷ ys) a b (suc p) x y same e f =
+    elim (pair_cases xs ys a b p x y (omega (arith, same)) e f) [ inl old ↦ inl old | inr new ↦ inr (ap suc new.0, new.1, new.2) ]
 
 -- ---- rising numbers
 
@@ -101,7 +88,7 @@ known_again known known' identities numbers identity number found unchanged know
       length_is = length_push numbers number ∙ ap (λ n. n + 1) knows.length_is ∙ sym (length_push identities identity);
       has = λ p x n e f. elim (pair_cases identities numbers identity number p x n knows.length_is e f) [
         | inl old ↦ same x ∙ knows.has p x n old.0 old.1
-        | inr new ↦ ap (get identity_cmp known') (sym new.0) ∙ same identity ∙ found ∙ ap Some new.1
+        | inr new ↦ ap (get identity_cmp known') (sym new.1) ∙ same identity ∙ found ∙ ap Some new.2
       ];
       apart = λ x y n e f. knows.apart x y n (sym (same x) ∙ e) (sym (same y) ∙ f);
       below = λ x n e. rw as_long (knows.below x n (sym (same x) ∙ e));
@@ -124,7 +111,7 @@ known_new known known' identities numbers identity number absent number_is updat
             key_cases identity x (get identity_cmp known' x ≡ Some n)
             (λ o same. let clash : get identity_cmp known identity ≡ Some n = ap (get identity_cmp known) same ∙ known_x in cc)
             (λ apart. other x apart ∙ known_x)
-        | inr new ↦ ap (get identity_cmp known') (sym new.0) ∙ here ∙ ap Some new.1
+        | inr new ↦ ap (get identity_cmp known') (sym new.1) ∙ here ∙ ap Some new.2
       ];
       apart = λ x y n e f.
           key_cases identity x (x ≡ y)
