@@ -8,8 +8,8 @@ use Rattle.indexmap.specs.IndexSet.{IndexSet, Updates, contains_text}
 use Rattle.sdc_base.proofs.CaseFacts.{or_turned}
 use Rattle.sdc_model.specs.FunctionMeaning.{inputs_in, is_other}
 use Rattle.sdc_model.specs.FunctionText.{place_in}
-use Rattle.sdc_model.specs.Words.{same_text}
-use Rattle.bool_lanes.specs.KnownNames.{AddsName, AreKnown, HasNames, is_among}
+use Rattle.sdc_model.specs.Words.{is_among, same_text}
+use Rattle.bool_lanes.specs.KnownNames.{AddsName, AreKnown, HasNames}
 use Rattle.bool_lanes.specs.NamedNumbers.{HasPlaces, number_at}
 use Rattle.bool_lanes.specs.declared.numbers.Numbers.{Numbers}
 use Rattle.bool_lanes.proofs.NumberFacts.{place_from-place_if}

@@ -1,15 +1,10 @@
 -- The names of a cell with what finds them. This project's own.
-use Rattle.std.specs.Prelude.{◌≡◌, ◌≤◌, ◌+◌, ◌||◌, ℕ, Bool, List, String, drop, length}
-use Rattle.std.specs.List.{list_any}
+use Rattle.std.specs.Prelude.{◌≡◌, ◌≤◌, ◌+◌, ◌||◌, ℕ, List, String, drop, length}
 use Rattle.indexmap.specs.IndexSet.{IndexSet, contains_text}
 use Rattle.sdc_model.specs.FunctionMeaning.{inputs_in}
-use Rattle.sdc_model.specs.Words.{same_text}
+use Rattle.sdc_model.specs.Words.{is_among, same_text}
 use Rattle.bool_lanes.specs.NamedNumbers.{HasPlaces}
 use Rattle.bool_lanes.specs.declared.numbers.Numbers.{Numbers}
-
--- a name is among names
-abbrev pub is_among : List (List ℕ) → List ℕ → Bool
-is_among names name = list_any (λ other. same_text other name) names
 
 -- the set has names
 abbrev pub HasNames : {A S : Type 0} → IndexSet (String A) S → List (List ℕ) → Type 0

@@ -1,4 +1,5 @@
--- The merged clocks of a mode that are marked once all of its clocks were looked at: those that it times with one of them.
+-- The merged clocks of a mode that are marked once all of its clocks were looked at: those that it times with one of
+-- them.
 use Rattle.std.proofs.Common.{◌≡◌, ℕ, ◌<◌, ◌≤◌, Bool, true, false, not, List, length, get_or, Option, Some, None, refl, sym, ap, ◌∙◌, arith, min, max}
 use Rattle.std.specs.Prelude.{◌&&◌, ◌||◌, nat_lt}
 use Rattle.std.specs.List.{list_any}

@@ -1,5 +1,5 @@
--- What modes say of merged clocks, as tests on what is kept of each mode: where its clocks stand, and its exclusive pairs.
--- The pairs of merged clocks stand in rows, one for each first clock.
+-- What modes say of merged clocks, as tests on what is kept of each mode: where its clocks stand, and its exclusive
+-- pairs. The pairs of merged clocks stand in rows, one for each first clock.
 use Rattle.std.specs.Prelude.{◌≡◌, ◌+◌, ◌-◌, ◌<◌, ◌++◌, ◌↔◌, ◌==◌, ◌&&◌, ◌||◌, ℕ, zero, suc, Bool, false, not, List, [], ◌∷◌, length, min, max, Option, Some, None, slice_get, slice_index_or, IsTrue, if◌then◌else◌}
 use Rattle.std.specs.List.{All, Contains, list_any}
 use Rattle.timing_types.specs.declared.clocks.Pair.{Pair}

@@ -1,4 +1,5 @@
--- The gaps of two clocks are the numbers that differ from the gap of their first edges by whole multiples of the periods' divisor.
+-- The gaps of two clocks are the numbers that differ from the gap of their first edges by whole multiples of the
+-- periods' divisor.
 use Rattle.std.proofs.Common.{◌≡◌, ℕ, ◌+◌, ◌*◌, ◌/◌, ◌<◌, ◌≤◌, ℤ, pos, ◌+ℤ◌, ◌-ℤ◌, ◌≤ℤ◌, ◌<ℤ◌, ap, arith}
 use Rattle.std.proofs.Math.Nat.{div-mul_cancel, lt_of_not-le, mul-le-mul_right}
 use Rattle.std.proofs.lemmas.Int.{ints, by_lt_z}

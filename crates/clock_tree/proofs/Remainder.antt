@@ -1,4 +1,5 @@
--- From the code's remainder to the relation: one more than the remainder of `b - a - 1` is the number from 1 to g that is `b - a` but for whole g.
+-- From the code's remainder to the relation: one more than the remainder of `b - a - 1` is the number from 1 to g that
+-- is `b - a` but for whole g.
 use Rattle.std.proofs.Common.{◌≡◌, ℕ, ◌+◌, ◌-◌, ◌*◌, ◌/◌, ◌%◌, ◌^◌, ◌<◌, ◌≤◌, ℤ, pos, negsuc, ◌+ℤ◌, ◌-ℤ◌, ◌≤ℤ◌, ◌<ℤ◌, refl, sym, ◌∙◌, ap, subst, arith, unsigned_abs, to_z, of_z, w64}
 use mir.Val.{SFits}
 use Rattle.std.proofs.Math.Nat.{div-add-mod, mul-le-mul_left, pos_of_dvd_of_pos}

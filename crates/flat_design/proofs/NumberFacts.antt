@@ -1,4 +1,5 @@
--- The number of a net bit: the first net of its module where it stands, its net in the module, and its place in the net.
+-- The number of a net bit: the first net of its module where it stands, its net in the module, and its place in the
+-- net.
 use Rattle.std.proofs.Common.{◌≡◌, ◌+◌, ◌-◌, ◌<◌, ◌≤◌, ℕ, zero, suc, min, Bool, true, false, cond, List, [], ◌∷◌, ◌++◌, map, length, take, slice_get, Option, Some, None, refl, sym, ◌∙◌, ap, subst, arith}
 use Rattle.std.proofs.lemmas.Bool.{cond-false, cond-true, le-leb, lt-leb}
 use Rattle.std.proofs.lemmas.List.{length-append, length-map}

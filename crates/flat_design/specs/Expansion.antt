@@ -1,5 +1,6 @@
 -- The expansion of a design: what is next in a module where it stands. This project's own words.
--- It reads: an instance of a cell or a module is next, or nothing is left; one that stands deeper than 100 levels stops it.
+-- It reads: an instance of a cell or a module is next, or nothing is left; one that stands deeper than 100 levels stops
+-- it.
 use Rattle.std.specs.Prelude.{◌≡◌, ◌<◌, ◌+◌, ℕ, true, false, List, length, nat_le, nat_lt, slice_get, Option, Some, None, if◌then◌else◌}
 use Rattle.source_types.specs.declared.libraries.Library.{Library}
 use Rattle.source_types.specs.declared.netlists.Module.{Module}

@@ -75,7 +75,8 @@ NumberHas names rows net name fault.TwoDrivers = has_two rows net ≡ true
 NumberHas names rows net name fault.AssignCycle = Returns rows net
 NumberHas names rows net name _ = ⊥
 
--- rows say of each net what the feeds of a design say: how many sources it has, and whether following them can come back
+-- rows say of each net what the feeds of a design say: how many sources it has, and whether following them can come
+-- back
 pub record AreSourcesOf (design : Hierarchy) (rows : List FeedRow) : Type 0 where
   pub count : (net : ℕ) (bit : NetBit) → IsNumber (spots_in design) net bit → length (sources (flat_of design).feeds bit) ≡ length (fed rows net)
   pub there : (net : ℕ) (bit : NetBit) → IsNumber (spots_in design) net bit → Returns rows net → ComesBack (flat_of design).feeds bit

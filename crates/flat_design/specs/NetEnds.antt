@@ -1,6 +1,6 @@
 -- The sources of all nets of a design, or the first fault of a net. This project's own words.
--- It reads: a net has a fault by its sources where it has two, or where following them can come back to it; where no net
--- has one, following them from each net finds a source or none.
+-- It reads: a net has a fault by its sources where it has two, or where following them can come back to it; where no
+-- net has one, following them from each net finds a source or none.
 use Rattle.std.specs.Prelude.{◌≡◌, ◌<◌, ◌⊎◌, ℕ, Bool, true, false, List, length, Option, Some, None, Result, Ok, Err}
 use Rattle.std.specs.List.{AllZip}
 use Rattle.sdc_base.specs.declared.memory.At.{At}

@@ -78,8 +78,8 @@ fn add_spot(
     Ok(())
 }
 
-/// Adds what the ports of the module that stands at a place feed, or are fed by: pins at the top, and elsewhere the nets
-/// of the module around it.
+/// Adds what the ports of the module that stands at a place feed, or are fed by: pins at the top, and elsewhere the
+/// nets of the module around it.
 fn add_ports(
     alloc: Global,
     rows: &mut List<FeedRow>,

@@ -1,8 +1,8 @@
 //! Nets to which following sources may come back, found in one walk over all nets.
 //!
-//! The walk numbers the nets by groups: two nets are of one group where sources lead from each of them to the other. What
-//! is told of the nets rests on no more than a comparison of their numbers along all rows: where no source has a lower
-//! number than the net that it feeds, a way that comes back keeps to one number.
+//! The walk numbers the nets by groups: two nets are of one group where sources lead from each of them to the other.
+//! What is told of the nets rests on no more than a comparison of their numbers along all rows: where no source has a
+//! lower number than the net that it feeds, a way that comes back keeps to one number.
 
 ghost use Rattle.std.specs.Prelude.{◌≡◌, ◌+◌, ◌<◌, ◌≤◌, ◌||◌, IfOk, OnOk, false, get_or, length, ℕ};
 ghost use Rattle.std.specs.List.{All, list_any};
@@ -15,9 +15,9 @@ use crate::source_table::SourceTable;
 use sdc_base::{List, NoMemory};
 use std::alloc::Global;
 
-/// Groups of nets as the walk finds them. A group is whole when the walk leaves the one of its nets that was reached first.
-/// Its number is below those of the groups that were whole before, so that no source has a lower number than the net that
-/// it feeds.
+/// Groups of nets as the walk finds them. A group is whole when the walk leaves the one of its nets that was reached
+/// first. Its number is below those of the groups that were whole before, so that no source has a lower number than the
+/// net that it feeds.
 #[derive(Drop)]
 struct Groups {
     /// The number of each net: that of its group where this is whole; 0 where the net was not reached; else the place,
@@ -222,8 +222,8 @@ fn copied(alloc: Global, numbers: &[usize]) -> Result<Vec<usize>, NoMemory>
     Ok(all)
 }
 
-/// Marks each net that has one number with a source of its own; and all nets where a source has a lower number than a net
-/// that it feeds.
+/// Marks each net that has one number with a source of its own; and all nets where a source has a lower number than a
+/// net that it feeds.
 fn marks_of(alloc: Global, rows: &[FeedRow], numbers: &[usize]) -> Result<Vec<bool>, NoMemory>
     requires { AreNetRows (length numbers.now) rows.now }
     ensures { IfOk result (λ marks. AreCompared numbers.now rows.now marks.items) }

@@ -17,8 +17,8 @@ use sdc_base::{Duplicate, List, NoMemory, Text};
 use sdc_model::{Design, Source};
 use std::alloc::Global;
 
-/// The design with these names of nets, cells and pins, by the sources of all nets. Numbers of cells and of library cells
-/// beyond 32 bits, and of pins of a library cell beyond 16 bits, are want of memory.
+/// The design with these names of nets, cells and pins, by the sources of all nets. Numbers of cells and of library
+/// cells beyond 32 bits, and of pins of a library cell beyond 16 bits, are want of memory.
 pub(crate) fn design_of(
     alloc: Global,
     design: &Hierarchy<'_>,

@@ -41,8 +41,8 @@ enum Turn {
     Enter(usize),
 }
 
-/// What stands in a design, or nothing where it is too large. Modules are given by the steps of their instances too, and
-/// by the numbers of their net bits.
+/// What stands in a design, or nothing where it is too large. Modules are given by the steps of their instances too,
+/// and by the numbers of their net bits.
 pub(crate) fn expand(
     alloc: Global,
     modules: &[Module],

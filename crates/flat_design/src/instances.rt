@@ -46,8 +46,8 @@ pub(crate) fn lay_out<'a>(
     }
 }
 
-/// What stands in a design with the top module at a place, whose instances have no fault. It is counted by modules, which
-/// come in order, before it is expanded.
+/// What stands in a design with the top module at a place, whose instances have no fault. It is counted by modules,
+/// which come in order, before it is expanded.
 fn expanded<'a>(
     alloc: Global,
     modules: &'a [Module],

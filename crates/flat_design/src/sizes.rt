@@ -20,9 +20,9 @@ pub(crate) struct Size {
     pub(crate) pins: u64,
 }
 
-/// Whether more stands in a design than is taken, with this top module, which has so many port bits. Modules are given by
-/// the steps of their instances, by the numbers of their net bits, and in an order in which each stands behind those that
-/// it instantiates.
+/// Whether more stands in a design than is taken, with this top module, which has so many port bits. Modules are given
+/// by the steps of their instances, by the numbers of their net bits, and in an order in which each stands behind those
+/// that it instantiates.
 pub(crate) fn is_counted_beyond(
     alloc: Global,
     library: &Library,

@@ -1,5 +1,5 @@
-//! The walk over the modules that a design instantiates, each walked once: the first fault of an instance, or the modules
-//! in an order in which each stands behind those that it instantiates.
+//! The walk over the modules that a design instantiates, each walked once: the first fault of an instance, or the
+//! modules in an order in which each stands behind those that it instantiates.
 
 ghost use Rattle.std.specs.Prelude.{◌≡◌, ◌<◌, drop, length, replicate, IfOk};
 ghost use Rattle.std.specs.List.{All};

@@ -5,7 +5,7 @@ use Rattle.std.proofs.lemmas.List.{append-nil, drop_all, drop_more, get_or-drop,
 use Rattle.sdc_base.proofs.CaseFacts.{by_bool}
 use Rattle.sdc_model.specs.LibertyGrammar.{level_behind, sign_of}
 use Rattle.sdc_model.specs.LibertyStatements as grammar
-use Rattle.sdc_model.specs.LibertyStatements.{Statement, begins, cut, parentheses_behind, place_behind, statement_from}
+use Rattle.sdc_model.specs.LibertyStatements.{Statement, begins, cut, parentheses_behind, place_behind}
 use Rattle.sdc_model.specs.LibertyTokens as liberty
 use Rattle.lib_cells.specs.declared.statements.Place.{Place}
 use Rattle.lib_cells.specs.declared.statements.Start.{Start}

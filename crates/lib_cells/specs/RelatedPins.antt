@@ -1,5 +1,5 @@
--- Related pins of the code, as the definitions of `timing` groups have them (Liberty), given the places of names in place
--- of the cell. This project's own.
+-- Related pins of the code, as the definitions of `timing` groups have them (Liberty), given the places of names in
+-- place of the cell. This project's own.
 use Rattle.std.specs.Prelude.{◌≡◌, ◌+◌, ◌++◌, ℕ, List, [], ◌∷◌, codes, nat_lt, if◌then◌else◌, Option, Some, None}
 use Rattle.std.specs.List.{flat_map}
 use Rattle.sdc_model.specs.LibertyArcs as liberty

@@ -1,5 +1,5 @@
-//! The functions of a cell's pins (Liberty, `function`): the names that they are read with, and their inputs as places of
-//! pins.
+//! The functions of a cell's pins (Liberty, `function`): the names that they are read with, and their inputs as places
+//! of pins.
 
 ghost use Rattle.std.specs.Prelude.{◌≡◌, ◌≤◌, ◌++◌, ◌∷◌, [], filter, get_or, length, map, IfOk, OnOk, Err};
 ghost use Rattle.sdc_base.specs.Gives.{Gives};

@@ -1,5 +1,5 @@
-//! The first fault of a library's text that is one of the grammar (Liberty, `time_unit`, `cell`). What is refused is this
-//! project's own.
+//! The first fault of a library's text that is one of the grammar (Liberty, `time_unit`, `cell`). What is refused is
+//! this project's own.
 //!
 //! Each function here has want of memory as its one error.
 

@@ -129,8 +129,8 @@ static LIBRARIES: [(&str, &str); 54] = [
         "cell (X) { latch (P) { } pin (P) { direction : input; function : P; } }",
         "1000000 [X] P:Input",
     ),
-    // arcs: united ones, one of each launch, pins without arcs, one into an input, a state variable, the first of two pins of
-    // one name, the last related pins
+    // arcs: united ones, one of each launch, pins without arcs, one into an input, a state variable, the first of two
+    // pins of one name, the last related pins
     (
         "cell (X) { pin (A) { direction : input; } pin (Z) { direction : output; timing () { related_pin : A; timing_sense : positive_unate; } timing () { related_pin : A; timing_type : combinational_rise; timing_sense : negative_unate; } } }",
         "1000000 [X] A:Input Z:Output 0>1 rr fr ff",

@@ -1,4 +1,5 @@
-//! Types and senses of timing as they stand in libraries, with the arcs and checks that a reader of the rules counts by hand.
+//! Types and senses of timing as they stand in libraries, with the arcs and checks that a reader of the rules counts by
+//! hand.
 
 use crate::cells::means;
 use sdc_base::NoMemory;

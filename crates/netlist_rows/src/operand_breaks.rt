@@ -1,4 +1,5 @@
-//! Texts of netlists that break the grammar within statements, each with the line of its break, and texts beside them that do not.
+//! Texts of netlists that break the grammar within statements, each with the line of its break, and texts beside them
+//! that do not.
 
 use crate::refused::broken;
 

@@ -1,5 +1,5 @@
-//! Modules as short texts, for tests: a module's name with its line, its ports, its nets, its instances with their lines,
-//! and its assignments.
+//! Modules as short texts, for tests: a module's name with its line, its ports, its nets, its instances with their
+//! lines, and its assignments.
 
 use sdc_base::{NoMemory, Stop};
 use sdc_model::{Assign, Bit, Instance, Link, Links, Module, Port, Range, Wire};

@@ -1,5 +1,5 @@
-//! Texts of netlists that are refused for what they use, each with its line and its fault as a reader of the rules counts
-//! them, and texts beside them that are taken.
+//! Texts of netlists that are refused for what they use, each with its line and its fault as a reader of the rules
+//! counts them, and texts beside them that are taken.
 
 use crate::refused::{all_refused, refused};
 use sdc_model::VerilogKind;

@@ -8,9 +8,9 @@ use sdc_model::{Kind, Object, SdcKind, Value};
 use std::alloc::Global;
 use tcl_eval::{Commands, eval};
 
-/// A host that writes down each call as `LINE:NAME(VALUES)`, a list of objects as `@` and its length. `clocks` gives two
-/// clocks with the names `p` and `q`, `none` no object, `refuse` is refused, `number` gives 0, and every other name gives its
-/// values in angle brackets.
+/// A host that writes down each call as `LINE:NAME(VALUES)`, a list of objects as `@` and its length. `clocks` gives
+/// two clocks with the names `p` and `q`, `none` no object, `refuse` is refused, `number` gives 0, and every other name
+/// gives its values in angle brackets.
 #[derive(Drop)]
 pub struct Recording {
     alloc: Global,

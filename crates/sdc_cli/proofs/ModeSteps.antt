@@ -51,7 +51,8 @@ in_front-push modes mode (Ok others) = ap (λ (all : List Mode). Ok all) (sym (a
 in_front-push modes mode (Err fault) = refl
 
 -- Behind `at` files of these names, which said these modes with so many clocks, the next one at a place of the words:
--- whatever the other files say completes what all say, and where the read of another one fails, the read of all fails there.
+-- whatever the other files say completes what all say, and where the read of another one fails, the read of all fails
+-- there.
 pub record ReadSoFar (most first : ℕ) (names : List (List ℕ)) (at place count : ℕ) (modes : List Mode) (before now : Reading) : Type 0 where
   pub files : now.files ≡ before.files
   pub say : (outcome : Result (List Mode) Fault) → SayModes most before.files place count (drop at names) outcome

@@ -29,9 +29,9 @@ impl Model for GivenGroups {
     ghost view = { λ it. record { asynchronous = it.asynchronous; groups = it.groups; expects = it.expects } };
 }
 
-/// The groups of a command as places of clocks, by the words behind its name: `-asynchronous` and at least one group, in any
-/// order; `None` where they are not these or a name is no clock's. None of the groups counts where one is empty. The one
-/// error is want of memory.
+/// The groups of a command as places of clocks, by the words behind its name: `-asynchronous` and at least one group,
+/// in any order; `None` where they are not these or a name is no clock's. None of the groups counts where one is empty.
+/// The one error is want of memory.
 pub fn groups_of(
     alloc: Global,
     clocks: &NamedClocks,
@@ -167,8 +167,8 @@ fn has_empty(groups: &[List<u32>]) -> bool
     groups.iter().any(|group| group.as_slice().is_empty())
 }
 
-/// The places of the clocks of a group: a list of names (Tcl), or clocks; `None` where it is neither of these or a name is no
-/// clock's. The one error is want of memory.
+/// The places of the clocks of a group: a list of names (Tcl), or clocks; `None` where it is neither of these or a name
+/// is no clock's. The one error is want of memory.
 fn group_of(
     alloc: Global,
     clocks: &NamedClocks,

@@ -150,8 +150,8 @@ fn options_of(
     }
 }
 
-/// The clock of a command on a line, by the words behind its name. `OutOfProfile` where an option or a value is not read
-/// here, or the name is taken; else `TooMany` where the file has 16,384 clocks.
+/// The clock of a command on a line, by the words behind its name. `OutOfProfile` where an option or a value is not
+/// read here, or the name is taken; else `TooMany` where the file has 16,384 clocks.
 pub fn clock_of(
     alloc: Global,
     clocks: &NamedClocks,

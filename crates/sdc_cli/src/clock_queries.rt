@@ -15,8 +15,8 @@ use sdc_model::{Object, Value};
 use std::alloc::Global;
 use std::collections::BTreeSet;
 
-/// The clocks of a list of names in order, each once; objects are given back; `None` where the words are not these or a name
-/// is no clock's. The one error is want of memory.
+/// The clocks of a list of names in order, each once; objects are given back; `None` where the words are not these or a
+/// name is no clock's. The one error is want of memory.
 pub fn clocks_named(
     alloc: Global,
     clocks: &NamedClocks,

@@ -11,8 +11,8 @@ use sdc_model::Pair;
 use std::alloc::Global;
 use std::collections::BTreeSet;
 
-/// The pairs of different clocks, of so many, that the groups of commands set against each other: the lesser place first, in
-/// order, each once. The one error is want of memory.
+/// The pairs of different clocks, of so many, that the groups of commands set against each other: the lesser place
+/// first, in order, each once. The one error is want of memory.
 pub fn pairs_of_groups(
     alloc: Global,
     commands: &[List<List<u32>>],
@@ -36,8 +36,8 @@ fn list_of(alloc: Global, pairs: BTreeSet<Pair>) -> Result<List<Pair>, NoMemory>
     Ok(List::from(pairs))
 }
 
-/// Adds the pairs of the groups of a command: one alone stands against all other clocks, of so many. The one error is want
-/// of memory.
+/// Adds the pairs of the groups of a command: one alone stands against all other clocks, of so many. The one error is
+/// want of memory.
 fn part_groups(
     alloc: Global,
     pairs: &mut BTreeSet<Pair>,

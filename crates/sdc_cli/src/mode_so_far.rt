@@ -13,8 +13,8 @@ use sdc_model::{Clock, Early, Form, Latency, Mode, Wave};
 use std::alloc::Global;
 use std::marker::Model;
 
-/// The clocks of a mode file so far, and the groups of each command that has some, by the places of their clocks. Contracts
-/// see `SoFar`.
+/// The clocks of a mode file so far, and the groups of each command that has some, by the places of their clocks.
+/// Contracts see `SoFar`.
 #[derive(Drop)]
 pub struct ModeSoFar {
     clocks: NamedClocks,

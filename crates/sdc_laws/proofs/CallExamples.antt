@@ -1,5 +1,5 @@
--- Calls of the host by example: a script in a bracket is run before the command around it, and the calls of both have the
--- line of the outermost command.
+-- Calls of the host by example: a script in a bracket is run before the command around it, and the calls of both have
+-- the line of the outermost command.
 use Rattle.std.proofs.Common.{refl, inl, arith}
 use Rattle.std.specs.Prelude.{◌≡◌, ◌++◌, ◌<◌, ℕ, List, [], ◌∷◌, None, Ok, codes}
 use Rattle.source_types.specs.declared.commands.Command.{Command}

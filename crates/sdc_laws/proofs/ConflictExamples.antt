@@ -1,6 +1,7 @@
--- A conflict of two modes by example: a buffer (pins 2 and 3) between port clk (pin 0) and a register (pins 4 and 5), whose
--- data comes from port d (pin 1). The first mode has a clock at the buffer's output, the second one at the port. The clock
--- of the second passes the first one's source, and the answered conflict is pin 3, source mode 0, passing mode 1.
+-- A conflict of two modes by example: a buffer (pins 2 and 3) between port clk (pin 0) and a register (pins 4 and 5),
+-- whose data comes from port d (pin 1). The first mode has a clock at the buffer's output, the second one at the port.
+-- The clock of the second passes the first one's source, and the answered conflict is pin 3, source mode 0, passing
+-- mode 1.
 use Rattle.std.proofs.Common.{◌≡◌, ◌∙◌, ℕ, zero, suc, ◌<◌, ◌≤◌, List, [], ◌∷◌, Some, get_or, refl, sym, ap, subst, inl, inr, arith}
 use Rattle.std.specs.Prelude.{true, pos, slice_get}
 use Rattle.std.specs.List.{Contains}

@@ -8,12 +8,11 @@ use Rattle.sdc_laws.proofs.NetDeclarations.{header_ports, no_header}
 use Rattle.sdc_laws.proofs.NetNames.{ArePorts, Fresh, header_fresh, none_known, tokens_fresh}
 use Rattle.sdc_laws.proofs.NetTexts.{IsFromText}
 use Rattle.sdc_model.specs.Verilog.{module_wrongs, repeated, seconds, undeclared, uneven, unknown_in, wrong_at}
-use Rattle.sdc_model.specs.VerilogKinds.{is_among}
 use Rattle.sdc_model.specs.VerilogNets.{is_of, is_port, is_port_of, pieces_in, port_names}
 use Rattle.sdc_model.specs.VerilogStatements.{declarations, declared_by, Written}
 use Rattle.sdc_model.specs.VerilogSyntax.{Declared, is, is_direction}
 use Rattle.sdc_model.specs.VerilogTokens.{Token}
-use Rattle.sdc_model.specs.Words.{same_text}
+use Rattle.sdc_model.specs.Words.{is_among, same_text}
 use Rattle.source_types.specs.declared.fault_kinds.VerilogKind.TheVariants.{DoubleName, InoutPort, UnknownNet, WidthMismatch}
 use Rattle.source_types.specs.declared.verilog_tokens.VerilogToken.TheVariants as kind
 use Rattle.std.proofs.Common.{◌++◌, ◌∙◌, ◌∷◌, ◌≡◌, [], ap, Bool, false, inl, inr, List, map, refl, subst, sym, true, ℕ}

@@ -1,5 +1,6 @@
--- Clock identity by example: two modes have two clocks of one definition each, and their names cross. By name in byte order
--- `a` stands ahead of `b`, and `Z` ahead of `y`; so `a` is one clock with `Z`, and `b` with `y`, wherever they stand.
+-- Clock identity by example: two modes have two clocks of one definition each, and their names cross. By name in byte
+-- order `a` stands ahead of `b`, and `Z` ahead of `y`; so `a` is one clock with `Z`, and `b` with `y`, wherever they
+-- stand.
 use Rattle.std.proofs.Common.{◌≡◌, refl}
 use Rattle.std.specs.Prelude.{ℕ, pos, false, List, [], ◌∷◌, map, slice_get}
 use Rattle.timing_types.specs.declared.clocks.Clock.{Clock}

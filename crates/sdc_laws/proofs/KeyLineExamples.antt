@@ -1,6 +1,6 @@
 -- Key lines by example. Two modes with setup multicycles of 2 and of 3 from a register to another, on a clock of 10 ns,
--- require 20 and 10 ns, and 30 and 20 ns; the merged mode has one line a key, for 20 ns. An input port with delays of 2 ns
--- in one mode and of 5 ns in another has a line whose value makes the limit of 8 ns again.
+-- require 20 and 10 ns, and 30 and 20 ns; the merged mode has one line a key, for 20 ns. An input port with delays of 2
+-- ns in one mode and of 5 ns in another has a line whose value makes the limit of 8 ns again.
 use Rattle.std.proofs.Common.{◌≡◌, refl, sym, inl, inr, arith}
 use Rattle.std.specs.Prelude.{◌⊎◌, ℤ, pos, false, [], ◌∷◌, Some, None}
 use Rattle.std.proofs.lemmas.Int.{ints}

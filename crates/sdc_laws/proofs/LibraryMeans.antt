@@ -1,5 +1,5 @@
--- Bytes have a meaning as a library: their tokens stand in a row, since each leaves less text behind it, and the machine
--- finds where they break.
+-- Bytes have a meaning as a library: their tokens stand in a row, since each leaves less text behind it, and the
+-- machine finds where they break.
 use Rattle.std.proofs.Common.{◌≡◌, ◌+◌, ◌<◌, ◌≤◌, ℕ, zero, suc, Bool, true, List, [], ◌∷◌, ◌++◌, Result, Err, length, drop, take, refl, sym, ap, subst, inl, inr, arith}
 use Rattle.std.specs.Prelude.{◌==◌, ◌||◌, not, nat_lt, if◌then◌else◌}
 use Rattle.std.specs.List.{prefix_len}

@@ -1,5 +1,5 @@
--- Texts that are read as lists, worked out by hand: `a {b c} d` has three items, `a {b` has a brace without its end, and
--- behind the brace of `{a};` stands text.
+-- Texts that are read as lists, worked out by hand: `a {b c} d` has three items, `a {b` has a brace without its end,
+-- and behind the brace of `{a};` stands text.
 use Rattle.std.proofs.Common.{◌≡◌, [], ◌∷◌, Ok, Err, Some, None, codes, refl}
 use Rattle.source_types.specs.declared.kinds.TclKind.TheVariants.{ExtraAfterBrace, Unclosed}
 use Rattle.sdc_model.specs.Bytes.{behind, front}

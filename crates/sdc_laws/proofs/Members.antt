@@ -2,8 +2,7 @@
 use Rattle.std.proofs.lemmas.Bool.{or_cases, or_left, or_right}
 use Rattle.sdc_laws.proofs.SameTexts.{same_is, text_same}
 use Rattle.sdc_laws.proofs.EachItem.{both_nothing}
-use Rattle.sdc_model.specs.VerilogKinds.{is_among}
-use Rattle.sdc_model.specs.Words.{same_text}
+use Rattle.sdc_model.specs.Words.{is_among, same_text}
 use Rattle.std.proofs.Common.{◌++◌, ◌||◌, ◌∙◌, ◌∷◌, ◌≡◌, [], ap, Bool, false, inl, inr, List, map, refl, Some, subst, sym, true, ℕ}
 use Rattle.std.proofs.lemmas.List.Elements.{Contains-append_left, Contains-append_right, Contains-push}
 use Rattle.std.specs.List.{Contains, find, flat_map, list_any}

@@ -1,5 +1,5 @@
--- Through lists by example. A walk of one node meets one of two lists, also where both have its pin; a walk on to a second
--- node meets both of two lists that have a node each, in their order alone.
+-- Through lists by example. A walk of one node meets one of two lists, also where both have its pin; a walk on to a
+-- second node meets both of two lists that have a node each, in their order alone.
 use Rattle.std.proofs.Common.{◌≡◌, ℕ, zero, suc, ◌<◌, List, [], ◌∷◌, None, get_or, refl, sym, ap, subst, arith}
 use Rattle.std.specs.Prelude.{take}
 use Rattle.std.specs.List.{AllZip}

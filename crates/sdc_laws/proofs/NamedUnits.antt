@@ -1,5 +1,5 @@
--- The unit of a library that is read is one of the four: its text is one `library` or more, and a unit that is none of them
--- would be a fault.
+-- The unit of a library that is read is one of the four: its text is one `library` or more, and a unit that is none of
+-- them would be a fault.
 use Rattle.std.proofs.Common.{◌≡◌, ℕ, Bool, true, false, pos, List, [], ◌∷◌, Option, Some, None, refl, sym, ap, subst, inl, inr}
 use Rattle.std.specs.Prelude.{◌==◌, ◌&&◌, codes, nat_lt, if◌then◌else◌}
 use Rattle.std.specs.List.{All, flat_map, last_or}

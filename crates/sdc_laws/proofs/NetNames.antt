@@ -5,12 +5,11 @@ use Rattle.sdc_base.proofs.CaseFacts.{by_bool}
 use Rattle.sdc_laws.proofs.EachItem.{both_nothing, unless}
 use Rattle.sdc_model.specs.Ranges.{width}
 use Rattle.sdc_model.specs.Verilog.{is_second, is_wire, repeated, seconds}
-use Rattle.sdc_model.specs.VerilogKinds.{is_among}
 use Rattle.sdc_model.specs.VerilogNets.{direction_of, is_of, is_port, is_port_of, new_wires, port_of}
 use Rattle.sdc_model.specs.VerilogSyntax.{Declared, port, Role, tied, wire}
 use Rattle.sdc_model.specs.VerilogTokens.{Token}
 use Rattle.sdc_model.specs.WellFormedDesign.{AreDistinct}
-use Rattle.sdc_model.specs.Words.{same_text}
+use Rattle.sdc_model.specs.Words.{is_among, same_text}
 use Rattle.source_types.specs.declared.library_cells.Direction.{Direction}
 use Rattle.source_types.specs.declared.netlists.Port.{Port}
 use Rattle.source_types.specs.declared.netlists.Wire.{Wire}

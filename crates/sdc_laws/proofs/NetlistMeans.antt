@@ -1,5 +1,5 @@
--- Bytes have a meaning as a netlist: their tokens stand in a row, since each leaves less text behind it, and the machine
--- finds where they break.
+-- Bytes have a meaning as a netlist: their tokens stand in a row, since each leaves less text behind it, and the
+-- machine finds where they break.
 use Rattle.std.proofs.Common.{◌≡◌, ◌+◌, ◌<◌, ◌≤◌, ℕ, zero, suc, Bool, true, false, List, [], ◌∷◌, Option, None, Some, Result, drop, length, refl, sym, subst, inl, inr, arith}
 use Rattle.std.specs.Prelude.{◌==◌, ◌||◌, not, if◌then◌else◌}
 use Rattle.std.specs.List.{prefix_len}

@@ -8,13 +8,12 @@ use Rattle.sdc_laws.proofs.Members.{among_in, find_in, find_some, In, in_among, 
 use Rattle.sdc_laws.proofs.NetBits.{Declares, HasNet, HasNets}
 use Rattle.sdc_laws.proofs.NetTexts.{IsFromText}
 use Rattle.sdc_model.specs.Verilog.{earlier}
-use Rattle.sdc_model.specs.VerilogKinds.{is_among}
 use Rattle.sdc_model.specs.VerilogNets.{declaration_of, declared_wire, direction_of, is_of, is_port, is_port_of, nets_of, new_wires, pieces_in, port_names, port_of, ports_of, range_named, used_wire, wires_in}
 use Rattle.sdc_model.specs.VerilogStatements.{assigns, declarations, declared_by, declares, places, Statement, Written}
 use Rattle.sdc_model.specs.VerilogSyntax.{bit, constant, Declared, is, part, Piece, port, Role, tied, whole, wire}
 use Rattle.sdc_model.specs.VerilogTokens.{Token}
 use Rattle.sdc_model.specs.WellFormedNetlist.{net_of_port}
-use Rattle.sdc_model.specs.Words.{same_text}
+use Rattle.sdc_model.specs.Words.{is_among, same_text}
 use Rattle.source_types.specs.declared.library_cells.Direction.{Direction}
 use Rattle.source_types.specs.declared.netlists.Port.{Port}
 use Rattle.source_types.specs.declared.netlists.Range.{Range}

@@ -1,4 +1,5 @@
--- Of two exceptions not both stand before the other, so no two of them win, and none that matches stands before the winner.
+-- Of two exceptions not both stand before the other, so no two of them win, and none that matches stands before the
+-- winner.
 use Rattle.std.proofs.Common.{◌≡◌, ◌≢◌, ◌∙◌, ℕ, ◌<◌, List, Some, sym, ap, subst, inl, inr, arith}
 use Rattle.std.specs.Prelude.{◌⊎◌, ℤ, slice_get}
 use Rattle.std.proofs.lemmas.Bool.{cases_lt}

@@ -1,5 +1,5 @@
--- Limits by example, whole: on a path from pin 4 to pin 6 under a clock of period 10 ns, by the relation of the rising edge
--- to itself, the exceptions of a mode, and which of them wins on each side.
+-- Limits by example, whole: on a path from pin 4 to pin 6 under a clock of period 10 ns, by the relation of the rising
+-- edge to itself, the exceptions of a mode, and which of them wins on each side.
 use Rattle.std.proofs.Common.{◌≡◌, ◌≢◌, ◌∙◌, ℕ, zero, suc, ◌<◌, List, [], ◌∷◌, Option, Some, None, refl, ap, inl, arith}
 use Rattle.std.specs.Prelude.{ℤ, pos, Bool, true, false, slice_get}
 use Rattle.std.specs.Option.{option_map}

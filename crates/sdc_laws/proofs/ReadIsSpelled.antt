@@ -25,8 +25,8 @@ bound : {A B : Type 0} → (f : A → Option B) (o : Option A) (y : B) → optio
 bound f None y is = absurd (none-some y is)
 bound f (Some x) y is = (x, refl, is)
 
--- the text before an operand in its parentheses, in four parts: up to an or, then up to an and, then up to a `^`, and the
--- `!` of the operand; with what completes each part, an expression of its level comes about
+-- the text before an operand in its parentheses, in four parts: up to an or, then up to an and, then up to a `^`, and
+-- the `!` of the operand; with what completes each part, an expression of its level comes about
 record Before (names : List (List ℕ)) (p : Pending) : Type 0 where
   sums : List ℕ
   products : List ℕ

@@ -1,4 +1,5 @@
--- The modules that a text means are well-formed: its names are each the name of one thing, and its bits are of its nets.
+-- The modules that a text means are well-formed: its names are each the name of one thing, and its bits are of its
+-- nets.
 use Rattle.sdc_base.specs.declared.memory.At.{At}
 use Rattle.sdc_laws.proofs.ConnectedBits.{assigns_fine, fine_statement, instances_fine}
 use Rattle.sdc_laws.proofs.EachItem.{both_nothing}

@@ -1,5 +1,5 @@
--- Runs by example. Of levels: an index is no command, a hundred levels are entered and one more is not. Of whole scripts:
--- first faults with their lines. Of bodies: items one by one.
+-- Runs by example. Of levels: an index is no command, a hundred levels are entered and one more is not. Of whole
+-- scripts: first faults with their lines. Of bodies: items one by one.
 use Rattle.std.proofs.Common.{refl, inl, inr, arith}
 use Rattle.std.specs.Prelude.{◌≡◌, ◌+◌, ◌<◌, ◌≤◌, ℕ, List, [], ◌∷◌, None, Ok, Err, codes}
 use Rattle.source_types.specs.declared.commands.Command.{Command}

@@ -1,6 +1,6 @@
--- The classes of two registers under one clock, by example. The clock's rising edge launches at both registers; from each
--- there is one class at its clock pin, at both edges of its output, and at both edges of what the output drives. That is
--- five a register, and ten in all.
+-- The classes of two registers under one clock, by example. The clock's rising edge launches at both registers; from
+-- each there is one class at its clock pin, at both edges of its output, and at both edges of what the output drives.
+-- That is five a register, and ten in all.
 use Rattle.std.proofs.Common.{◌≡◌, ◌∙◌, ℕ, zero, suc, ◌<◌, ◌≤◌, List, [], ◌∷◌, Some, refl, sym, ap, subst, inl, inr, arith}
 use Rattle.std.specs.Prelude.{◌⊎◌, ◌↔◌, Bool, drop, slice_get}
 use Rattle.std.specs.List.{Contains}

@@ -1,5 +1,5 @@
--- The pool of two registers under one clock, by example: its two launched pairs, the clock's rising edge at the clock pin
--- of each register, and an order of its nodes in which every alive arc that launches nothing goes forward.
+-- The pool of two registers under one clock, by example: its two launched pairs, the clock's rising edge at the clock
+-- pin of each register, and an order of its nodes in which every alive arc that launches nothing goes forward.
 use Rattle.std.proofs.Common.{◌≡◌, ◌∙◌, ℕ, zero, suc, ◌+◌, ◌*◌, ◌%◌, ◌<◌, List, [], ◌∷◌, Some, refl, sym, ap, subst, inl, inr, arith}
 use Rattle.std.specs.Prelude.{drop, slice_get}
 use Rattle.std.specs.List.{All, Contains}

@@ -1,6 +1,6 @@
--- Two registers under a clock of period 10 ns at port clk, by example: no pin is constant, all arcs are alive, the clock
--- arrives at the port and at the clock pins of both registers, and the path from one register to the other is timed, at
--- 10 ns for setup and at 0 for hold.
+-- Two registers under a clock of period 10 ns at port clk, by example: no pin is constant, all arcs are alive, the
+-- clock arrives at the port and at the clock pins of both registers, and the path from one register to the other is
+-- timed, at 10 ns for setup and at 0 for hold.
 use Rattle.std.proofs.Common.{◌≡◌, ◌≢◌, ◌∙◌, ℕ, zero, suc, ◌<◌, ◌≤◌, length, List, [], ◌∷◌, Some, None, refl, sym, ap, subst, inl, inr, arith}
 use Rattle.std.specs.Prelude.{◌⊎◌, Bool, true, pos, drop, map, slice_get, Ok}
 use Rattle.std.specs.List.{Contains}

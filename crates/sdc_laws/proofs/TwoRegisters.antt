@@ -1,5 +1,6 @@
--- The timing graph of two registers in a row, by example: from port d (pin 1) through r1 (pins 3 to 5) and r2 (pins 6 to 8)
--- to port q (pin 2), both clocked by port clk (pin 0). It has 14 arcs, 10 of nets and 4 that launch, and 4 checks.
+-- The timing graph of two registers in a row, by example: from port d (pin 1) through r1 (pins 3 to 5) and r2 (pins 6
+-- to 8) to port q (pin 2), both clocked by port clk (pin 0). It has 14 arcs, 10 of nets and 4 that launch, and 4
+-- checks.
 use Rattle.std.proofs.Common.{◌≡◌, ◌∙◌, ℕ, zero, suc, ◌+◌, ◌<◌, get_or, List, [], ◌∷◌, Option, Some, None, codes, refl, sym, ap, subst, inl, inr, arith}
 use Rattle.std.specs.Prelude.{◌⊎◌, ◌↔◌, Bool, true, false, pos, slice_get}
 use Rattle.std.specs.List.{All, Contains}

@@ -1,5 +1,5 @@
--- A library that is read can be used: its unit is one of the four, no two cells have one name, and each cell that is not
--- refused has arcs, checks and functions of its own pins.
+-- A library that is read can be used: its unit is one of the four, no two cells have one name, and each cell that is
+-- not refused has arcs, checks and functions of its own pins.
 use Rattle.std.proofs.Common.{◌≡◌, ◌≤◌, ◌+◌, ℕ, Bool, true, false, List, [], ◌∷◌, Option, Some, None, Result, Ok, Err, length, refl, sym, subst, inl, inr, arith, slice_index_or}
 use Rattle.std.specs.Prelude.{◌||◌, nat_lt}
 use Rattle.std.specs.List.{All, list_any}

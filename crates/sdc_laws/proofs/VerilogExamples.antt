@@ -1,5 +1,5 @@
--- What the modules of small netlists have, by example. Each is worked out by hand from the rules of Verilog and from this
--- project's own.
+-- What the modules of small netlists have, by example. Each is worked out by hand from the rules of Verilog and from
+-- this project's own.
 use Rattle.std.proofs.Common.{ℕ, false, true, List, [], ◌∷◌, None, Some, Ok, refl}
 use Rattle.std.specs.Prelude.{codes}
 use Rattle.source_types.specs.declared.library_cells.Direction.TheVariants.{Input, Output}

@@ -1,4 +1,5 @@
--- The faults of netlists whose texts do not break, by example. Each is worked out by hand from this project's own rules.
+-- The faults of netlists whose texts do not break, by example. Each is worked out by hand from this project's own
+-- rules.
 use Rattle.std.proofs.Common.{refl}
 use Rattle.std.specs.Prelude.{codes}
 use Rattle.source_types.specs.declared.fault_kinds.VerilogKind.TheVariants.{DoubleName, InoutPort, UnknownNet, WidthMismatch}

@@ -1,5 +1,5 @@
--- Where texts of netlists break and where they do not, by example. Each is worked out by hand from the grammar of Verilog and
--- from this project's own limits.
+-- Where texts of netlists break and where they do not, by example. Each is worked out by hand from the grammar of
+-- Verilog and from this project's own limits.
 use Rattle.std.proofs.Common.{◌++◌, [], ◌∷◌, Ok, inr, refl}
 use Rattle.std.specs.Prelude.{codes}
 use Rattle.std.specs.Char.{encode_utf8}

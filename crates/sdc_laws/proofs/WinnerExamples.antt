@@ -1,6 +1,6 @@
--- Which exception wins, by example: a false path from a clock, which has both sides, against a delay of 3 ns between two
--- pins, on a path from pin 4 over pin 5 to pin 6. On the setup side both match, and the false path wins though less is said
--- of its ends.
+-- Which exception wins, by example: a false path from a clock, which has both sides, against a delay of 3 ns between
+-- two pins, on a path from pin 4 over pin 5 to pin 6. On the setup side both match, and the false path wins though less
+-- is said of its ends.
 use Rattle.std.proofs.Common.{◌≡◌, ◌≢◌, ◌∙◌, ℕ, zero, suc, ◌<◌, List, [], ◌∷◌, Option, Some, None, refl, sym, ap, inl, arith}
 use Rattle.std.specs.Prelude.{ℤ, pos, Bool, true, false, slice_get}
 use Rattle.std.specs.Option.{option_map}

@@ -1,8 +1,8 @@
 //! Laws of the definitions, and worked examples of them.
 //!
-//! The files of `sdc_model/specs` say what the tool means. Here their subjects are said once more in their own words: each
-//! function is a law, whose clause holds of the definitions, whoever computes them. The lemma files whose names end in
-//! `Examples`, and those of two registers, are small cases worked out by hand, as facts of the definitions.
+//! The files of `sdc_model/specs` say what the tool means. Here their subjects are said once more in their own words:
+//! each function is a law, whose clause holds of the definitions, whoever computes them. The lemma files whose names
+//! end in `Examples`, and those of two registers, are small cases worked out by hand, as facts of the definitions.
 //!
 //! A definition that does not say what its reader takes it to say fails here, before any code is written to it. To the
 //! layers above it gives laws and no code: by `read_netlists_can_be_flattened` and `read_libraries_can_be_used` a

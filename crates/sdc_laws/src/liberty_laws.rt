@@ -13,8 +13,8 @@ pub fn libraries_have_one_meaning()
 {}
 
 /// A library that bytes mean can be used: its unit is one of the four, no two of its cells have one name, and each cell
-/// that is not refused has at most 60,000 pins, arcs and checks between its own pins, and functions of at most ten of its
-/// own inputs. That is all that flattening takes for granted of a library (`CanFlatten`).
+/// that is not refused has at most 60,000 pins, arcs and checks between its own pins, and functions of at most ten of
+/// its own inputs. That is all that flattening takes for granted of a library (`CanFlatten`).
 pub fn read_libraries_can_be_used()
     ensures { (bytes : List ℕ) (library : Library)
         → ReadsLibrary bytes (Ok library) → IsWellFormedLibrary library }

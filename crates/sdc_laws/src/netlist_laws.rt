@@ -12,10 +12,10 @@ pub fn netlists_have_one_meaning()
     ensures one { (bytes : List ℕ) → HasOneMeaning bytes }
 {}
 
-/// A netlist that bytes mean can be flattened: no two of its modules have one name, and no two nets of a module; the nets
-/// of a module begin with its ports, none of which is an `inout`; each bit that an instance connects, or that is assigned, is
-/// a constant or a bit of a net of the module; and the two sides of an assignment have one width, the left one without
-/// constants. That is all that flattening takes for granted of a netlist (`CanFlatten`).
+/// A netlist that bytes mean can be flattened: no two of its modules have one name, and no two nets of a module; the
+/// nets of a module begin with its ports, none of which is an `inout`; each bit that an instance connects, or that is
+/// assigned, is a constant or a bit of a net of the module; and the two sides of an assignment have one width, the left
+/// one without constants. That is all that flattening takes for granted of a netlist (`CanFlatten`).
 pub fn read_netlists_can_be_flattened()
     ensures { (bytes : List ℕ) (modules : List Module)
         → ReadsVerilog bytes (Ok modules) → IsWellFormedNetlist modules }

@@ -1,5 +1,6 @@
--- Commands of mode files and what they are answered, worked by hand. A whole check reads this file and refuses what is false.
-use Rattle.std.proofs.Common.{◌≡◌, ℕ, pos, List, [], ◌∷◌, Some, None, Ok, Err, codes, refl}
+-- Commands of mode files and what they are answered, worked by hand. A whole check reads this file and refuses what is
+-- false.
+use Rattle.std.proofs.Common.{◌≡◌, ℕ, pos, List, [], ◌∷◌, Ok, Err, codes, refl}
 use Rattle.timing_types.specs.declared.clocks.Clock.{Clock}
 use Rattle.timing_types.specs.declared.clocks.Pair.{Pair}
 use Rattle.source_types.specs.declared.kinds.SdcKind.TheVariants.{OutOfProfile}

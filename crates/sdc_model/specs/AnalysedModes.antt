@@ -1,7 +1,7 @@
 -- The modes of a merge, each with its analysis and with the merged clocks that its clocks are. This project's own form.
 -- It reads: the modes are analysed over one design; their clocks are merged by clock identity, and each mode has the
 -- numbers that the clock map gives it.
-use Rattle.std.specs.Prelude.{◌≡◌, ℕ, List, [], ◌∷◌, map}
+use Rattle.std.specs.Prelude.{◌≡◌, ℕ, List, map}
 use Rattle.std.specs.List.{AllZip, Contains}
 use Rattle.timing_types.specs.declared.designs.Design.{Design}
 use Rattle.timing_types.specs.declared.modes.Mode.{Mode}

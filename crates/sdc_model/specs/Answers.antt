@@ -1,5 +1,6 @@
 -- What an answer of a run says of its words, of the files that were read and of what was written. This project's own.
--- Want of memory may stand anywhere; every other answer has its cause. Where an object tells nothing, its counts alone speak.
+-- Want of memory may stand anywhere; every other answer has its cause. Where an object tells nothing, its counts alone
+-- speak.
 use Rattle.std.specs.Prelude.{◌≡◌, ◌+◌, ◌≤◌, ◌<◌, ◌⊎◌, ◌++◌, ℕ, suc, List, [], ◌∷◌, length, Option, Some, None, Result, Ok, Err}
 use Rattle.sdc_base.specs.declared.outside.NamedBytes.{NamedBytes}
 use Rattle.sdc_base.specs.declared.outside.Channel.TheVariants.{Report}
@@ -16,7 +17,8 @@ use Rattle.source_types.specs.declared.kinds.Fault.{Fault}
 use Rattle.timing_types.specs.declared.modes.Mode.{Mode}
 use Rattle.sdc_model.specs.ModeFiles.{SayModes, SaysFile}
 
--- the mode files of a command line: their names, and the place of the first of them among the words
+-- the mode files of a command line: their names, and the place of the first of them among the words, which are counted
+-- from 0 and without `--` and `--tags` with its number
 abbrev pub files_of : CommandLine → List (List ℕ)
 files_of (Edges files) = files
 files_of (Merge out modes) = modes
@@ -43,7 +45,7 @@ made_file (Merge out modes) = Some out
 abbrev pub LineModes : CommandLine → List NamedBytes → Result (List Mode) Fault → Type 0
 LineModes line files outcome = SayModes (most_clocks line) files (first_place line) 0 (files_of line) outcome
 
--- A fact about a command line and the modes that its files say: where there is one, and where the files are told.
+-- There is a command line, and where the files are told they say modes, and the fact holds of the line and these modes.
 abbrev pub OnModes : (CommandLine → List Mode → Type 0) → Option Reading → Option CommandLine → Type 0
 OnModes Fact told None = ⊥
 OnModes Fact None (Some line) = Unit {0}
@@ -89,7 +91,8 @@ WriteFaultFits before after status.WriteFault = Rose before after
 WriteFaultFits before after _ = Unit {0}
 
 -- The read of the file at the failed place failed: the files before it say modes, and it is begun, or else what was
--- begun before it. The first of the names has this place, so many clocks stand before it, and `begun` is what was begun.
+-- begun before it. The first of the names has this place, so many clocks stand before it, and `begun` is what was
+-- begun.
 abbrev pub FailsReading : ℕ → List NamedBytes → ℕ → ℕ → Option (List ℕ) → List (List ℕ) → ℕ → Option (List ℕ) → Type 0
 FailsReading most files place count begun [] failed after = ⊥
 FailsReading most files place count begun (name ∷ names) failed after =

@@ -1,6 +1,7 @@
--- Where clock edges arrive in a timing graph. This project's own rule: a clock edge starts at the pins that its clock is
--- defined at, goes along arcs that launch nothing, and stops before every pin that any clock is defined at.
--- Walks are lists of nodes, the last node first. The arcs are given as a predicate: all arcs of a graph, or its alive ones.
+-- Where clock edges arrive in a timing graph. This project's own rule: a clock edge starts at the pins that its clock
+-- is defined at, goes along arcs that launch nothing, and stops before every pin that any clock is defined at.
+-- Walks are lists of nodes, the last node first. The arcs are given as a predicate: all arcs of a graph, or its alive
+-- ones.
 use Rattle.std.specs.Prelude.{◌≡◌, ◌*◌, ◌<◌, ◌⊎◌, ◌↔◌, ℕ, Bool, List, [], ◌∷◌, length, Some, slice_get}
 use Rattle.std.specs.List.{Contains}
 use Rattle.timing_types.specs.declared.clocks.Clock.{Clock}

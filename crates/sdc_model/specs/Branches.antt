@@ -1,6 +1,6 @@
--- The words of `if` (Tcl): a condition, `then` where it is written, a body; behind it `elseif` with a condition and a body
--- any number of times; and at last a body, with `else` before it where it is written. The words are taken apart before a
--- condition is evaluated; words that are too few or too many are none of an `if`.
+-- The words of `if` (Tcl): a condition, `then` where it is written, a body; behind it `elseif` and the same again, any
+-- number of times; and at last one more body, or none. `else` may stand before that body, and not alone. The words are
+-- taken apart before a condition is evaluated; words that are too few or too many are none of an `if`.
 use Rattle.std.specs.Prelude.{ℕ, Bool, List, [], ◌∷◌, Option, Some, None, codes, if◌then◌else◌}
 use Rattle.std.specs.Option.{option_map}
 use Rattle.source_types.specs.declared.built_ins.Branches.{Branches}

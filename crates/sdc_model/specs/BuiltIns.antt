@@ -1,6 +1,6 @@
--- The built-in commands that only look at values (Tcl): `list`, `concat`, `lindex`, `llength`. Lists of objects, which they
--- take whole and item by item, are this project's own. It reads: by the values of the words behind the name, what is given
--- or the first fault; a wrong number of words is WrongArgs. `text_of` is what a value is as a text.
+-- The built-in commands that only look at values (Tcl): `list`, `concat`, `lindex`, `llength`. Lists of objects, which
+-- they take whole and item by item, are this project's own. It reads: by the values of the words behind the name, what
+-- is given or the first fault; a wrong number of words is WrongArgs. `text_of` is what a value is as a text.
 use Rattle.std.specs.Prelude.{◌≡◌, ◌++◌, ◌/◌, ◌^◌, ◌==◌, ◌||◌, ℕ, Bool, List, [], ◌∷◌, length, map, Option, Some, None, Result, Ok, Err, pos, int_lt, slice_get, unsigned_abs, if◌then◌else◌}
 use Rattle.std.specs.Fmt.{decimal}
 use Rattle.std.specs.List.{list_any}
@@ -85,7 +85,7 @@ Concatenates None texts outcome =
 abbrev pub Concats : (Value → List ℕ) → List Value → Outcome Value → Type 0
 Concats text_of arguments outcome = Concatenates (joined_objects arguments) (map text_of arguments) outcome
 
--- a text has what a whole number has not: a point or an exponent
+-- a text has a byte that a number has only where it is not whole: a point, `e` or `E`
 abbrev pub is_unwhole : List ℕ → Bool
 is_unwhole text = list_any (λ b. b == 46 || b == 101 || b == 69) text
 

@@ -1,6 +1,7 @@
 -- Which delays a merged mode carries. This project's own rule.
--- It reads: of the delays that every mode has, those are spared that match no path of a key in need under all of them. The
--- spared ones are carried, if none of them matches a path of a key in need under the spared ones alone; else none is.
+-- It reads: of the delays that every mode has, those are spared that match no path of a key in need under all of them.
+-- The spared ones are carried, if none of them matches a path of a key in need under the spared ones alone; else none
+-- is.
 use Rattle.std.specs.Prelude.{◌≡◌, List, []}
 use Rattle.timing_types.specs.declared.constraints.ExCommand.TheVariants.{Delay}
 use Rattle.timing_types.specs.declared.constraints.Exception.{Exception}

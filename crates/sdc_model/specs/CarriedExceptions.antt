@@ -1,6 +1,7 @@
 -- Which exceptions of the modes a merged mode carries. This project's own rule.
--- It reads: a false path is carried where no mode times a path that it matches; a multicycle where every mode has an equal
--- one; a delay where it is one of a given set of delays. Equal ones are carried once, in order of mode, then of place.
+-- It reads: a false path is carried where no mode times a path that it matches; a multicycle where every mode has an
+-- equal one; a delay where it is one of a given set of delays. Equal ones are carried once, in order of mode, then of
+-- place.
 use Rattle.std.specs.Prelude.{◌≡◌, ◌<◌, ℕ, ℤ, List, map, Some, slice_get}
 use Rattle.std.specs.List.{Contains, flat_map}
 use Rattle.timing_types.specs.declared.constraints.ExCommand.{ExCommand}

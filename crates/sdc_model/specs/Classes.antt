@@ -1,6 +1,6 @@
 -- Classes of the walks that paths begin with: all that limits look at. This project's own rule.
--- It reads: a prefix begins at a launched start and goes on by alive arcs; a start alone is one. Its class is its launch
--- edge, its start, in which modes all its arcs are alive, and how many through lists of each exception it meets.
+-- It reads: a prefix begins at a launched start and goes on by alive arcs; a start alone is one. Its class is its
+-- launch edge, its start, in which modes all its arcs are alive, and how many through lists of each exception it meets.
 -- Nodes stand with the last one first.
 use Rattle.std.specs.Prelude.{◌≡◌, ◌*◌, ◌^◌, ◌<◌, ◌≤◌, ◌⊎◌, ◌↔◌, ℕ, Bool, List, [], ◌∷◌, length, take, Some, slice_get}
 use Rattle.std.specs.List.{Contains, sum_by}

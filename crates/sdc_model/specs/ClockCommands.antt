@@ -1,7 +1,8 @@
 -- What the commands of a mode file say by their words (SDC 2.1). Which of them are read here is this project's own:
--- `create_clock` without sources, `set_clock_groups -asynchronous`, `set_units -time 1ns`, and `get_clocks` of names of clocks,
--- their options in any order. Every other option or value is out of profile. It reads: by the clocks so far, what a command's
--- words say, or its fault. Where nothing else is said a list of objects counts as the text of its names.
+-- `create_clock` without sources, `set_clock_groups -asynchronous`, `set_units -time 1ns`, and `get_clocks` of names of
+-- clocks, their options in any order. Every other option or value is out of profile. It reads: by the clocks so far,
+-- what a command's words say, or its fault. Where nothing else is said a list of objects counts as the text of its
+-- names.
 use Rattle.std.specs.Prelude.{◌==◌, ◌&&◌, ◌++◌, ℕ, Bool, true, false, not, List, [], ◌∷◌, length, map, codes, Option, Some, None, Result, Ok, Err, nat_lt, slice_get, if◌then◌else◌}
 use Rattle.std.specs.BTreeSet.{insert_key}
 use Rattle.std.specs.List.{list_any}
@@ -134,7 +135,7 @@ groups_placed clocks (group ∷ groups) =
 abbrev pub with_effect : List (List ℕ) → List (List ℕ)
 with_effect groups = if list_any (λ group. length group == 0) groups then [] else groups
 
--- at least one group
+-- the groups, where `-asynchronous` is given and at least one group
 abbrev pub groups_given : List Clock → Bool → List Value → Option (List (List ℕ))
 groups_given clocks true (group ∷ groups) = option_map with_effect (groups_placed clocks (group ∷ groups))
 groups_given clocks _ _ = None

@@ -1,6 +1,7 @@
--- What the clocks and clock groups of a mode file are so far, and the mode of them (SDC 2.1). Which of it is read here is this
--- project's own: clocks without sources, each with a name and a waveform of its own, and groups of clocks.
--- It reads: a clock by its line, name and waveform, and a mode that has the clocks and the pairs that their groups make.
+-- What the clocks and clock groups of a mode file are so far, and the mode of them (SDC 2.1). Which of it is read here
+-- is this project's own: clocks without sources, each with a name and a waveform of its own, and groups of clocks.
+-- It reads: a clock by its line, name and waveform, and a mode that has the clocks and the pairs that their groups
+-- make.
 use Rattle.std.specs.Prelude.{◌&&◌, ℕ, pos, Bool, false, List, [], length, Option, Some, None, nat_lt}
 use Rattle.std.specs.List.{list_all, list_any}
 use Rattle.std.specs.Option.{option_and_then}
@@ -45,7 +46,7 @@ virtual_clock line name wave = record {
   propagated = false;
 }
 
--- the clocks so far, and the groups of each command that has some, by the places of their clocks
+-- the clocks so far, and the groups of each `set_clock_groups` by the places of their clocks, none if it has no effect
 pub record SoFar : Type 0 where
   pub clocks : List Clock
   pub groups : List (List (List ℕ))

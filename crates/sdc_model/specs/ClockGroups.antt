@@ -1,6 +1,6 @@
 -- Groups of clocks, and the pairs of clocks that they make exclusive (SDC 2.1, set_clock_groups).
--- Clocks are known by their places. All pairs of different clocks in different groups of a command are exclusive, and one
--- group alone stands against all other clocks of the mode.
+-- Clocks are known by their places. All pairs of different clocks in different groups of a command are exclusive, and
+-- one group alone stands against all other clocks of the mode.
 use Rattle.std.specs.Prelude.{◌==◌, ◌&&◌, ◌||◌, ◌+◌, ◌++◌, ℕ, zero, suc, Bool, false, List, [], ◌∷◌, length, map, Option, Some, None, nat_lt, if◌then◌else◌}
 use Rattle.std.specs.List.{list_any}
 use Rattle.std.specs.Option.{option_and_then}
@@ -53,7 +53,7 @@ group_of clocks (value.Objects objects) = clock_places (length clocks) objects
 abbrev pub is_among : ℕ → List ℕ → Bool
 is_among place places = list_any (λ p. p == place) places
 
--- so many places from one on that are not in a group
+-- of so many places from one on, those that are not in a group
 abbrev pub others_from : List ℕ → ℕ → ℕ → List ℕ
 others_from group place zero = []
 others_from group place (suc more) =

@@ -1,7 +1,7 @@
 -- The words of a command line. This project's own.
 -- The first word names the command. Behind it `--` ends the options, once; before that a word of two or more bytes
--- that begins with `-` is no argument. `-` alone and the empty word are arguments. `merge` has one option. The lines that
--- stand are `edges`, and `merge` over the empty design (`- - -`): every other line is wrong.
+-- that begins with `-` is no argument. `-` alone and the empty word are arguments. `merge` has one option. The lines
+-- that stand are `edges`, and `merge` over the empty design (`- - -`): every other line is wrong.
 use Rattle.std.specs.Prelude.{◌==◌, ◌&&◌, ℕ, Bool, false, List, [], ◌∷◌, length, drop, map, string_bytes, String, Option, Some, None, codes, nat_eq, nat_lt, nat_le, if◌then◌else◌}
 use Rattle.std.specs.Global.{Global}
 use Rattle.std.specs.List.{starts_with}
@@ -36,7 +36,7 @@ arguments_of (word ∷ words) =
     if same_text word (codes "--") then Some words
     else (if is_option word then None else option_and_then (λ others. Some (word ∷ others)) (arguments_of words))
 
--- a budget of classes: an optional `+` and digits, from 1 to 10,000,000
+-- the digits of a budget of classes, from 1 to 10,000,000; and a budget, with an optional `+` before its digits
 abbrev pub is_budget_text : List ℕ → Bool
 is_budget_text digits =
     nat_lt 0 (length digits) && all_ascii_digits digits && nat_le 1 (digits_value 10 digits) && nat_le (digits_value 10 digits) 10000000

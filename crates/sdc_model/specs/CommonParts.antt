@@ -1,7 +1,8 @@
--- The parts of a merged mode that say nothing of single paths: case values, disables, delays of ports and kept commands.
--- This project's own rule. It reads: what every mode has is carried; of the delays of a port to a clock edge the greatest
--- maximum and the least minimum that a mode sets, each value by itself; kept commands as the first mode has them.
-use Rattle.std.specs.Prelude.{◌≡◌, ◌<◌, ◌≤ℤ◌, ◌⊎◌, ◌↔◌, ℕ, ℤ, List, [], ◌∷◌, map, Option, Some}
+-- The parts of a merged mode that say nothing of single paths: case values, disables, delays of ports and kept
+-- commands. This project's own rule. It reads: what every mode has is carried; of the delays of a port to a clock edge
+-- the greatest maximum and the least minimum that a mode sets, each value by itself; kept commands as the first mode
+-- has them.
+use Rattle.std.specs.Prelude.{◌≡◌, ◌<◌, ◌≤ℤ◌, ◌⊎◌, ◌↔◌, ℕ, ℤ, List, [], ◌∷◌, map, Some}
 use Rattle.std.specs.List.{Contains}
 use Rattle.timing_types.specs.declared.constraints.CaseSet.{CaseSet}
 use Rattle.timing_types.specs.declared.constraints.Disable.{Disable}
@@ -68,7 +69,7 @@ abbrev pub IsSetValue : List AnalysedMode → Pin → ClockEdge → Side → Edg
 IsSetValue modes port edge side transition time = InSomeMode modes (λ mode. (delay : IoDelay)
     × HasDelayTo port edge mode delay × (delay_value delay side transition ≡ Some time))
 
--- the strictest of the values: the greatest for setup, the least for hold
+-- a value is at least as strict as another: as great or greater for setup, as small or less for hold
 abbrev pub IsStrictDelay : Side → ℤ → ℤ → Type 0
 IsStrictDelay Setup time other = other ≤ℤ time
 IsStrictDelay Hold time other = time ≤ℤ other
@@ -98,7 +99,7 @@ kept_of mode = map (mapped_kept mode.numbers) (mode_of mode).kept
 abbrev pub IsCommonKept : List AnalysedMode → Kept → Type 0
 IsCommonKept modes kept = InEveryMode modes (λ mode. Contains (kept_of mode) kept)
 
--- the items of a list that have a property, in order
+-- the items of a list that have a property, in order, equal ones as often as they stand there
 abbrev pub AreThose : {X : Type 0} → (X → Type 0) → List X → List X → Type 0
 AreThose Is [] those = those ≡ []
 AreThose {X} Is (x ∷ xs) those =

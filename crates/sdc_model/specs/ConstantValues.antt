@@ -73,7 +73,8 @@ pub record FunctionGives (design : Design) (values : Values) (pin : ℕ) (v : Bo
   pub function : function_of design pin ≡ Some expr
   pub forced : (inputs : ℕ → Bool) → IsCompletion values cell inputs → value_of inputs expr ≡ v
 
--- what the design gives a pin where these values stand: what comes from outside its cell, and else what its function does
+-- what the design gives a pin where these values stand: what comes from outside its cell, and else what its function
+-- does
 abbrev pub IsDerived : Design → Values → ℕ → Option Bool → Type 0
 IsDerived design values pin (Some v) =
     (driven_value values (driver_of design pin) ≡ Some v)

@@ -1,6 +1,6 @@
 -- The report of `edges`: a line for each launch edge and each capture edge of a file's clocks, in order, rise before
--- fall, with the setup and the hold relation of the two in nanoseconds. This project's own. Over the empty design every clock
--- has a waveform of its own: a generated one has no edges here.
+-- fall, with the setup and the hold relation of the two in nanoseconds. This project's own. Over the empty design every
+-- clock has a waveform of its own: a generated one has no edges here.
 use Rattle.std.specs.Prelude.{◌≡◌, ℕ, ℤ, pos, List, [], ◌∷◌, ◌++◌, codes}
 use Rattle.sdc_base.specs.Time.{time_text_of}
 use Rattle.timing_types.specs.declared.clocks.Clock.{Clock}

@@ -1,6 +1,6 @@
 -- What a merged mode times beyond need, and what a merge lists of it. This project's own rule.
--- It reads: a path is in excess on a side where the merged mode times it and no mode requires it, or where its limit there
--- is stricter than its requirement. Each relation of an end with such a path is listed with the least such path.
+-- It reads: a path is in excess on a side where the merged mode times it and no mode requires it, or where its limit
+-- there is stricter than its requirement. Each relation of an end with such a path is listed with the least such path.
 use Rattle.std.specs.Prelude.{◌≡◌, ◌↔◌, ℕ, ℤ, true, List, [], ◌∷◌, Option, Some, None, reverse}
 use Rattle.std.specs.List.{Contains}
 use Rattle.std.specs.Ordering.{nat_cmp, is_lt}

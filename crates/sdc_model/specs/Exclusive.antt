@@ -1,5 +1,6 @@
--- Which merged clocks are exclusive: exactly those of which no mode has both and lets them be timed. This project's own rule.
--- A mode lets two of its clocks be timed where its exclusive pairs do not have them. Pairs have the lesser number first.
+-- Which merged clocks are exclusive: exactly those of which no mode has both and lets them be timed. This project's own
+-- rule. A mode lets two of its clocks be timed where its exclusive pairs do not have them. Pairs have the lesser number
+-- first.
 use Rattle.std.specs.Prelude.{◌≡◌, ◌<◌, ◌⊎◌, ◌↔◌, ℕ, List, [], ◌∷◌, Some, slice_get, nat_le, if◌then◌else◌}
 use Rattle.std.specs.List.{Contains}
 use Rattle.timing_types.specs.declared.clocks.Pair.{Pair}

@@ -1,6 +1,7 @@
 -- The limits at an endpoint of a mode, explained. This project's own rule.
--- It reads: each relation of the endpoint with a candidate path has the strictest limit of its timed paths, the least path
--- that has it, and the line of that path's winner or 0. Where none is timed there is no limit, and the least candidate.
+-- It reads: each relation of the endpoint with a candidate path has the strictest limit of its timed paths, the least
+-- path that has it, and the line of that path's winner or 0. Where none is timed there is no limit, and the least
+-- candidate.
 use Rattle.std.specs.Prelude.{◌≡◌, ◌↔◌, ℕ, ℤ, List, Option, Some, None, reverse, slice_get}
 use Rattle.std.specs.List.{Contains}
 use Rattle.std.specs.Option.{option_map}

@@ -67,7 +67,8 @@ tightness (parentheses t) = unary_binding
 tightness (unary u t) = unary_binding
 tightness (binary op left right) = binding op
 
--- each operator's left side is bound no looser than by it, and its right side tighter
+-- each operator between two operands has its left side bound no looser than by it, and its right side tighter; each
+-- before one operand has that operand bound no looser than by it
 abbrev pub IsGrouped : Tree → Type 0
 IsGrouped (number n) = Unit {0}
 IsGrouped (word w) = Unit {0}

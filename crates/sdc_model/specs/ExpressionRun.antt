@@ -33,7 +33,8 @@ abbrev pub then_on : Result Scalar Kind → (Scalar → Result Scalar TclKind) �
 then_on (Ok v) operation = raised (operation v)
 then_on (Err fault) operation = Err fault
 
--- how an operator goes on behind its left side, given what this decides: its right side is run and joined to it
+-- how an operator goes on behind its left side: what this decides is given, and the right side is not run; where it
+-- decides nothing, the right side is run and joined to it
 abbrev pub RunsRight : {State : Type 0} → Turn State Scalar → BinaryOperator → Scalar → Option (Result Scalar TclKind) → Turn State Scalar
 RunsRight Right op left (Some outcome) between given after = (given ≡ raised outcome) × (after ≡ between)
 RunsRight Right op left None between given after =

@@ -141,7 +141,7 @@ variable_token (found (text bytes) rest) = stops malformed
 variable_token (found (other part) rest) = found (token.Word (word_of_pieces (other part ∷ []))) rest
 variable_token (stops end) = stops malformed
 
--- what stands at a `[`: a script, or an index in its brackets
+-- what stands at a `[`: a script; that an index stands for itself is told where it is run
 abbrev pub script_token : PieceFront → TokenFront
 script_token (found piece rest) = found (token.Word (word_of_pieces (piece ∷ []))) rest
 script_token (stops end) = stops malformed

@@ -1,6 +1,7 @@
 -- The line that names what stopped a run, and how it stands in the channel of faults. This project's own rule.
 -- A fault of a file is named by the file, the line and the name of its kind; work that is done has no line.
--- It reads: the words of a command line in their places, the names of the kinds, the line of an answer, and what a run leaves.
+-- It reads: the words of a command line in their places, the names of the kinds, the line of an answer, and what a run
+-- leaves.
 use Rattle.std.specs.Prelude.{◌≡◌, ◌⊎◌, ◌++◌, ℕ, List, [], ◌∷◌, Option, Some, None, codes, slice_get}
 use Rattle.std.specs.Fmt.{decimal}
 use Rattle.std.specs.Option.{unwrap_or}
@@ -140,8 +141,9 @@ fault_line line (status.TooLarge bytes) = too_large_line bytes
 abbrev pub HasFront : List ℕ → List ℕ → List ℕ → Type 0
 HasFront text before after = (front : List ℕ) × (rest : List ℕ) × (text ≡ front ++ rest) × (after ≡ before ++ front)
 
--- The whole line of the answer stands behind what was there, or a front of it where `Failed` says that a write failed. After
--- want of memory it is a front of the line of an answer that stood: memory may have run out while that line was made or written.
+-- The whole line of the answer stands behind what was there, or a front of it where `Failed` says that a write failed.
+-- After WriteFault a front of its line stands there whatever `Failed` says, and after Done nothing. After want of
+-- memory it is a front of the line of an answer that stood: memory may have run out while it was made or written.
 abbrev pub LeavesFaults : Option CommandLine → (Status → Type 0) → Type 0 → Status → List ℕ → List ℕ → Type 0
 LeavesFaults line Stood Failed status.Done before after = after ≡ before
 LeavesFaults line Stood Failed status.WriteFault before after = HasFront (fault_line line status.WriteFault) before after

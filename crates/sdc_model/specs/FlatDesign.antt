@@ -1,5 +1,5 @@
--- The flat design of a netlist over a library: its pins, cells and nets in order, and the driver of each load. The order
--- and the names (an instance's name and `/` in front) are this project's own.
+-- The flat design of a netlist over a library: its pins, cells and nets in order, and the driver of each load. The
+-- order and the names (an instance's name and `/` in front) are this project's own.
 -- It reads: pins are the port bits of the top and then those of each cell; a driver is found by following sources from
 -- net to net until there is none or it is no net.
 use Rattle.std.specs.Prelude.{◌≡◌, ◌++◌, ◌+◌, ◌⊎◌, ℕ, true, false, List, [], ◌∷◌, length, map, slice_get, codes, Option, Some, None}
@@ -26,7 +26,7 @@ use Rattle.sdc_model.specs.WellFormedDesign.{role_in_cell}
 
 -- ---- following sources
 
--- sources lead from a net over these nets to another one
+-- sources lead from a net over these nets to an end, which may be the net itself
 abbrev pub Leads : List Feed → NetBit → List NetBit → NetBit → Type 0
 Leads feeds net [] end = Contains (sources feeds net) (from_net end)
 Leads feeds net (next ∷ nets) end = Contains (sources feeds net) (from_net next) × Leads feeds next nets end

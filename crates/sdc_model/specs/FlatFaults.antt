@@ -71,7 +71,7 @@ is_too_large f =
 abbrev pub is_among : List (List ℕ) → List ℕ → Bool
 is_among names name = list_any (same_text name) names
 
--- an earlier net has the net's name; the name is bad; it has two sources; following sources can come back to it
+-- an earlier net has the net's name; the name is bad; it has two or more sources; following sources can come back to it
 abbrev pub NetHas : Flat → ℕ → FlatNet → DesignKind → Type 0
 NetHas f place net fault.DoubleName = is_among (map net_name (take place f.nets)) (net_name net) ≡ true
 NetHas f place net fault.BadName = is_good_name (net_name net) ≡ false

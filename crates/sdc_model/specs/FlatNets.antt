@@ -1,5 +1,5 @@
--- What feeds the nets of a flat design: a net is one bit of a module's net where the module stands (IEEE 1364-2005, nets
--- and continuous assignments). That each source counts, also one that stands twice, is this project's own rule.
+-- What feeds the nets of a flat design: a net is one bit of a module's net where the module stands (IEEE 1364-2005,
+-- nets and continuous assignments). That each source counts, also one that stands twice, is this project's own rule.
 -- It reads: cell outputs, input ports of the top, connections into and out of modules, assigns and ties each feed a net
 -- from a pin, a value or another net; `x`, `z` and what is left open feed nothing.
 use Rattle.std.specs.Prelude.{◌++◌, ◌&&◌, ℕ, Bool, true, false, List, [], ◌∷◌, filter, map, nat_eq, codes, Option, Some, None}

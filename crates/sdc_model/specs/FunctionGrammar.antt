@@ -4,8 +4,9 @@
 --   chain     is  negation | chain ^ negation
 --   product   is  chain | product * chain | product & chain | product BLANK chain
 --   sum       is  product | sum + product | sum | product
--- with blanks before and behind any of these; a whole text is a sum. Each rule of `Spells` says of which parts a text is,
--- and the expression that it means then. Of several blanks between two operands any may be the and, with one meaning.
+-- with blanks before and behind any of these; a whole text is a sum. Each rule of `Spells` says of which parts a text
+-- is, and the expression that it means then. Of several blanks between two operands any may be the and, with one
+-- meaning.
 use Rattle.std.specs.Prelude.{◌≡◌, ◌↔◌, ◌⊎◌, ℕ, List, [], ◌∷◌, ◌++◌, Some}
 use Rattle.source_types.specs.declared.function_texts.Sign.{Sign}
 use Rattle.source_types.specs.declared.function_texts.Sign.TheVariants as sign

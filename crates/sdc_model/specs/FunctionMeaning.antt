@@ -1,5 +1,6 @@
--- What the text of a cell's function means among the cell's names: its expression, or none where a name in it is no
--- input, or the first cause to refuse it. The form is Liberty's, the limits and the causes are this project's own.
+-- What the text of a cell's function means among the cell's names: its expression, or none where it has the name of a
+-- state variable or of a pin that is no input, or the first cause to refuse it. The form is Liberty's, the limits and
+-- the causes are this project's own.
 -- The names are the inputs in order, then an empty one, then the state variables and the other pins. Read `meaning`.
 use Rattle.std.specs.Prelude.{◌+◌, ◌++◌, ◌∷◌, ◌||◌, ◌&&◌, ◌==◌, ℕ, Bool, not, nat_le, nat_lt, if◌then◌else◌, List, [], length, drop, get_or, Option, Some, None, Result, Ok, Err}
 use Rattle.std.specs.List.{list_any, prefix_len}
@@ -24,7 +25,7 @@ pins_layer (Expr-F.Xor left right) = left ++ right
 abbrev pub pins_of : Expr → List ℕ
 pins_of = fold-Expr (List ℕ) pins_layer
 
--- the number of inputs among names: those before the first empty name
+-- the number of inputs among names: those before the first empty name, or all where none is empty
 abbrev pub inputs_in : List (List ℕ) → ℕ
 inputs_in names = prefix_len (λ name. nat_lt 0 (length name)) names
 

@@ -3,7 +3,6 @@
 -- It reads: a master is named, or is the one other clock that arrives at the source pin. A generated clock has the wave
 -- that its shape makes of its master's. The first fault is that of the first clock that has one.
 use Rattle.std.specs.Prelude.{◌+◌, ◌*◌, ◌==◌, ◌||◌, ℕ, zero, suc, pos, Bool, true, false, List, [], ◌∷◌, ◌++◌, length, Option, Some, None, Result, Ok, Err, slice_get, if◌then◌else◌}
-use Rattle.std.specs.List.{list_any}
 use Rattle.std.specs.Option.{option_and_then, option_or, unwrap_or}
 use Rattle.sdc_base.specs.declared.memory.At.{At}
 use Rattle.timing_types.specs.declared.analyses.Waves.{Waves}
@@ -17,13 +16,11 @@ use Rattle.timing_types.specs.declared.modes.Mode.{Mode}
 use Rattle.source_types.specs.declared.pins.ClockEdge.{ClockEdge}
 use Rattle.source_types.specs.declared.pins.Pin.{Pin}
 use Rattle.timing_types.specs.declared.views.Arrivals.{Arrivals}
+use Rattle.sdc_model.specs.ClockGroups.{is_among}
 use Rattle.sdc_model.specs.ClockIdentity.{edges_at}
 use Rattle.sdc_model.specs.WaveShapes.{generated_wave}
 
 -- ---- masters
-
-abbrev pub is_among : ℕ → List ℕ → Bool
-is_among clock clocks = list_any (λ other. other == clock) clocks
 
 -- the clocks of these edges but one, each once
 abbrev pub other_clocks : ℕ → List ClockEdge → List ℕ
@@ -61,7 +58,7 @@ abbrev pub above : Mode → Arrivals → ℕ → ℕ → Option ℕ
 above mode arrivals zero place = Some place
 above mode arrivals (suc steps) place = option_and_then (above mode arrivals steps) (master_in mode arrivals place)
 
--- a clock is the first of these masters
+-- there is a clock, and it is the one at the place
 abbrev pub is_clock : ℕ → Option ℕ → Bool
 is_clock place None = false
 is_clock place (Some other) = other == place

@@ -1,5 +1,5 @@
--- Environment commands that are kept as they are (SDC 2.1), and what a kept one looks like in a mode. Which commands are
--- kept is this project's own choice.
+-- Environment commands that are kept as they are (SDC 2.1), and what a kept one looks like in a mode. Which commands
+-- are kept is this project's own choice.
 -- A kept command has its name as its first word. A word is a text, or objects in the order clocks, ports, pins, cells,
 -- nets, each kind by number and each object once.
 use Rattle.std.specs.Prelude.{◌≡◌, ◌<◌, ◌⊎◌, ℕ, Bool, true, List, [], ◌∷◌, length, codes, Some, slice_get}

@@ -1,7 +1,8 @@
 -- The lines that a merged mode has for keys in need: one exception a key. This project's own rule.
--- It reads: a line holds of the key's launch edge, its start, its last node and its capture edge. It is a delay that makes
--- the limit of the key's paths what is required, or a false path where nothing is. Lines stand in the order of keys.
-use Rattle.std.specs.Prelude.{◌≡◌, ◌↔◌, ℕ, ℤ, pos, ◌-ℤ◌, Bool, false, List, [], ◌∷◌, Option, Some, None}
+-- It reads: a line holds of the key's launch edge, its start, its last node and its capture edge. It is a delay that
+-- makes the limit of the key's paths what is required, or a false path where nothing is. Lines stand in the order of
+-- keys.
+use Rattle.std.specs.Prelude.{◌≡◌, ◌↔◌, ℤ, pos, ◌-ℤ◌, false, List, [], ◌∷◌, Option, Some, None}
 use Rattle.std.specs.List.{AllZip, Contains}
 use Rattle.timing_types.specs.declared.clocks.Clock.{Clock}
 use Rattle.timing_types.specs.declared.constraints.ExCommand.{ExCommand}

@@ -1,7 +1,7 @@
 -- The limits of all paths, by keys: in each view, for each class of paths of a key. This project's own form.
--- It reads: a view is a mode over the arcs of a pool, with the merged clocks that its clocks are. A key is there where some
--- view has a candidate path of it that is a launched prefix of the pool. For each class of the key's paths it has the
--- limit of every path of the class in each view, and the place of the exception that wins there.
+-- It reads: a view is a mode over the arcs of a pool, with the merged clocks that its clocks are. A key is there where
+-- some view has a candidate path of it that is a launched prefix of the pool. For each class of the key's paths it has
+-- the limit of every path of the class in each view, and the place of the exception that wins there.
 use Rattle.std.specs.Prelude.{◌≡◌, ◌<◌, ℕ, ℤ, List, ◌∷◌, length, map, Option, Some, None, slice_get}
 use Rattle.std.specs.List.{All, Contains}
 use Rattle.timing_types.specs.declared.class_sets.Class.{Class}

@@ -1,6 +1,6 @@
--- Keys: the finest groups of paths that one printed line can speak of, with what the modes require of them. This project's
--- own rule. It reads: a key is a start, a last node, a launch edge, a capture edge and a side. A start is a node of an
--- input port, or a register's pin, known by its rising node. The paths of a key are the merged mode's candidates.
+-- Keys: groups of paths, for each of which a merge prints at most one line, with what the modes require of them. This
+-- project's own rule. It reads: a key is a start, a last node, a launch edge, a capture edge and a side. A start is a
+-- node of an input port, or a register's pin, known by its rising node. A key's paths are the merged mode's candidates.
 use Rattle.std.specs.Prelude.{◌≡◌, ◌≢◌, ◌⊎◌, ℕ, ℤ, true, List, [], ◌∷◌, Option, Some, None}
 use Rattle.std.specs.Ordering.{nat_cmp, is_lt}
 use Rattle.std.specs.Cmp.Lexicographic.{slice_cmp}
@@ -62,7 +62,7 @@ IsRequiredOfKey modes merged key limit =
 abbrev pub KeyRequirementIs : List AnalysedMode → Analysis → Key → Option ℤ → Type 0
 KeyRequirementIs modes merged key requirement = IsStrictest key.side (IsRequiredOfKey modes merged key) requirement
 
--- two paths of a key have different requirements, none being one of them
+-- two paths of a key have different requirements, to have none counting as one
 pub record IsMixed (modes : List AnalysedMode) (merged : Analysis) (key : Key) : Type 0 where
   pub path : Path
   pub other : Path

@@ -1,5 +1,5 @@
--- The arcs and checks of a library cell (Liberty: `timing`, `related_pin`), and the cell. What is united, which pins have no
--- arcs and which cells are refused is this project's own. A cell is a group of the text with what stands in it.
+-- The arcs and checks of a library cell (Liberty: `timing`, `related_pin`), and the cell. What is united, which pins
+-- have no arcs and which cells are refused is this project's own. A cell is a group of the text with what stands in it.
 -- It reads: the related pins of each pin, in the order of the pins and of the text; arcs; checks; the cell.
 use Rattle.std.specs.Prelude.{◌+◌, ◌==◌, ◌||◌, ◌&&◌, ℕ, Bool, true, false, not, List, [], ◌∷◌, ◌++◌, filter, length, map, codes, get_or, nat_lt, if◌then◌else◌, Option, Some, None}
 use Rattle.std.specs.List.{filter_map, flat_map, fold, list_any}
@@ -99,7 +99,7 @@ both arc other = record {
   launch = arc.launch;
 }
 
--- arcs and one more, united with the one between the same pins, where there is one
+-- arcs and one more, united with the one between the same pins, where there is one; launch arcs stay apart from others
 abbrev pub with_arc : List LibArc → LibArc → List LibArc
 with_arc [] arc = arc ∷ []
 with_arc (other ∷ arcs) arc = if is_same_pair other arc then both other arc ∷ arcs else other ∷ with_arc arcs arc

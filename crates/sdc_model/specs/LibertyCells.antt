@@ -29,9 +29,6 @@ name_of cell = first_text (arguments cell.statement)
 abbrev pub is_named : List ℕ → Bool
 is_named name = nat_lt 0 (length name)
 
-abbrev pub is_among : List (List ℕ) → List ℕ → Bool
-is_among names name = list_any (λ other. same_text other name) names
-
 -- the words of a text, behind a word that has begun
 abbrev pub ended_word : List ℕ → List (List ℕ)
 ended_word word = if is_named word then word ∷ [] else []
@@ -101,7 +98,8 @@ is_named_input pin = is_input (direction_of pin) && is_named pin.name
 abbrev pub other_names : List NamedPin → List (List ℕ)
 other_names ps = map (λ (pin : NamedPin). pin.name) (filter (λ pin. not (is_input (direction_of pin))) ps)
 
--- the names that functions are read with: the inputs, an empty name, the state variables and the other pins
+-- the names that functions are read with: the inputs, an empty name, the state variables and the other pins; an input,
+-- variable or pin whose name is empty is left out
 abbrev pub function_names : Member → List (List ℕ)
 function_names cell =
     map (λ (pin : NamedPin). pin.name) (filter is_named_input (pins cell))

@@ -1,16 +1,16 @@
 -- The faults of a library's text that is one of the grammar, in the order of the text (Liberty: `time_unit`, `cell`,
--- `function`, `related_pin`). What is refused is this project's own. A fault of a function, a related pin or a unit stands
--- at its attribute, a cell of a name that an earlier one has at this cell, and a unit that is not the first library's at
--- the later `library`. It reads: faults in a cell; of a unit; of a whole text.
+-- `function`, `related_pin`). What is refused is this project's own. A fault of a function, a related pin or a unit
+-- stands at its attribute, a cell of a name that an earlier one has at this cell, and a unit that is not the first
+-- library's at the later `library`. It reads: faults in a cell; of a unit; of a whole text.
 use Rattle.std.specs.Prelude.{◌++◌, ◌==◌, ◌&&◌, ℕ, Bool, false, not, List, [], ◌∷◌, codes, nat_lt, if◌then◌else◌, Option, Some, None, Result, Ok, Err}
 use Rattle.std.specs.List.{flat_map, list_all, list_any}
 use Rattle.sdc_base.specs.declared.memory.At.{At}
 use Rattle.source_types.specs.declared.functions.Expr.{Expr}
 use Rattle.source_types.specs.declared.kinds.LibKind.{LibKind}
 use Rattle.source_types.specs.declared.kinds.LibKind.TheVariants.{DoubleCell, FunctionForm, LibForm, UnknownPin}
-use Rattle.sdc_model.specs.LibertyCells.{function_meaning, is_among, is_left_out, name_of, pin_groups, pin_names, state_variables, words_of}
+use Rattle.sdc_model.specs.LibertyCells.{function_meaning, is_left_out, name_of, pin_groups, pin_names, state_variables, words_of}
 use Rattle.sdc_model.specs.LibertyStatements.{Member, Statement, groups, is_group, last_value, members, value_named}
-use Rattle.sdc_model.specs.Words.{same_text}
+use Rattle.sdc_model.specs.Words.{is_among, same_text}
 
 -- ---- in a cell
 

@@ -57,14 +57,14 @@ kind_of_form bare level gap text = bare_kind gap text
 kind_of_form quoted level gap text = token.Quoted gap
 kind_of_form sign level gap text = sign_kind level gap (sign_byte sign text)
 
--- the kinds of tokens, behind which so many groups are open
+-- the kinds of tokens, before which so many groups are open
 abbrev pub kinds : ℕ → List Token → List LibertyToken
 kinds level [] = []
 kinds level (t ∷ ts) = kind_of_form t.form level (gap_of t.gap) t.text ∷ kinds (level_behind t level) ts
 
 -- ---- the grammar
 
--- a `library` group, and what stands behind it
+-- what stands behind the name of a `library` group: the rest of the group, and further ones
 abbrev pub library_group : Option (List LibertySymbol)
 library_group = Some (part.Parenthesis ∷ part.Arguments ∷ part.Brace ∷ part.Statements ∷ part.GroupEnd ∷ part.MoreLibraries ∷ [])
 
@@ -139,7 +139,8 @@ abbrev pub line_at : List Token → ℕ → ℕ
 line_at tokens place = get_or (map (λ (t : Token). t.line) tokens) place 1
 
 -- the tokens of a text that is one of the grammar, or the line where it breaks: that of the first token that no text of
--- the grammar has behind those before it, or the last one where the text ends too early
+-- the grammar has behind those before it, or that of the last byte where the text ends too early, as it does in a
+-- comment without end; an empty text breaks on line 1
 abbrev pub formed : List ℕ → List Token → Bool → Option Break → Result (List Token) ℕ
 formed text tokens unfinished (Some (break.Token place)) = Err (line_at tokens place)
 formed text tokens unfinished (Some break.End) = Err (last_line_of text 1)

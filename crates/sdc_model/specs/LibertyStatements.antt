@@ -79,7 +79,8 @@ abbrev pub value_text : List Token → List ℕ
 value_text [] = []
 value_text (t ∷ ts) = t.text ++ flat_map (λ (u : Token). u.gap ++ u.text) ts
 
--- the value of a simple attribute, given the tokens behind its name: what stands between its colon and `;` or `}`
+-- the value of a simple attribute, given the tokens behind its name: what stands behind its colon, up to `;` or `}`, or
+-- to the last of these tokens
 abbrev pub value_in : List Token → Option (List ℕ)
 value_in [] = None
 value_in (t ∷ ts) =

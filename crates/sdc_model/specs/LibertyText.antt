@@ -1,6 +1,6 @@
 -- What the bytes of a library mean (Liberty): a library, or their first fault. What is read, what is refused and the
--- order of faults are this project's own. Faults stand in this order: bytes that are no text; a break of the grammar; then
--- all others in the order of the text.
+-- order of faults are this project's own. Faults stand in this order: bytes that are no text; a break of the grammar;
+-- then all others in the order of the text.
 use Rattle.std.specs.Prelude.{◌≡◌, ◌⊎◌, ℕ, pos, List, [], ◌∷◌, map, Option, Some, None, Result, Ok, Err}
 use Rattle.std.specs.Str.{IsUtf8}
 use Rattle.sdc_base.specs.declared.memory.At.{At}

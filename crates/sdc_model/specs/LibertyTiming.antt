@@ -1,5 +1,5 @@
--- What a `timing` group of a library pin says (Liberty: `timing_type`, `timing_sense`): an arc or a check between the pin
--- and a related pin. The types and senses are Liberty's; which types are passed over is this project's own.
+-- What a `timing` group of a library pin says (Liberty: `timing_type`, `timing_sense`): an arc or a check between the
+-- pin and a related pin. The types and senses are Liberty's; which types are passed over is this project's own.
 -- It reads: the table of types; senses; the arc or check of one pair of pins, given by their places in the cell.
 use Rattle.std.specs.Prelude.{◌&&◌, ℕ, Bool, true, false, not, List, [], ◌∷◌, codes, Option, Some, None}
 use Rattle.std.specs.List.{find}
@@ -13,8 +13,8 @@ use Rattle.sdc_model.specs.Words.{same_text}
 
 -- ---- types of timing
 
--- what a `timing` group gives: cell arcs by sense, to a rise of the output or not and to a fall or not; a launch arc from
--- an edge of the clock; a check at an edge of the clock; or nothing
+-- what a `timing` group gives: cell arcs by sense, to a rise of the output or not and to a fall or not; a launch arc
+-- from an edge of the clock; a check at an edge of the clock; or nothing
 pub data Timing : Type 0 where
   cell_arc : (to_rise to_fall : Bool) → Timing
   launch : Edge → Timing

@@ -1,7 +1,7 @@
 -- The limit of a path: the greatest delay that it may have for setup, the least for hold, in whole femtoseconds. Which
--- values count is SDC 2.1's; that a setup multicycle moves the hold relation, and which one, is this project's own rule.
--- It reads: the relation of the two clock edges, as the winning exceptions change it, and all that is added to it, which
--- is called the adjustment: latencies, uncertainty and the delays outside the ports.
+-- values count is SDC 2.1's; that a setup multicycle moves the hold relation, and which one, is this project's own
+-- rule. It reads: the relation of the two clock edges, as the winning exceptions change it, and all that is added to
+-- it, which is called the adjustment: latencies, uncertainty and the delays outside the ports.
 use Rattle.std.specs.Prelude.{◌≡◌, ◌==◌, ◌&&◌, ℕ, ℤ, pos, ◌+ℤ◌, ◌-ℤ◌, Bool, List, [], ◌∷◌, Option, Some, None, slice_get, if◌then◌else◌}
 use Rattle.std.specs.Option.{option_and_then, option_map, unwrap_or}
 use Rattle.timing_types.specs.declared.clocks.Clock.{Clock}
@@ -69,7 +69,7 @@ delay_value delay Setup Fall = delay.max_fall
 delay_value delay Hold Rise = delay.min_rise
 delay_value delay Hold Fall = delay.min_fall
 
--- what a delay takes off a limit at a node of a path's end: 0 where the node is at no port
+-- what a delay takes off a limit at an end of a path: 0 where the node's pin has none to the edge, or no such value set
 abbrev pub outside_delay : List IoDelay → Side → Node → ClockEdge → ℤ
 outside_delay delays side node edge =
     unwrap_or (option_and_then (λ delay. delay_value delay side node.edge) (delay_to delays node.pin edge)) (pos 0)
@@ -93,12 +93,12 @@ adjustment mode launch capture ends side =
 abbrev pub winning : List Exception → Option ℕ → Option Exception
 winning exceptions place = option_and_then (slice_get exceptions) place
 
--- the move of the best setup multicycle, by which the hold relation moves too
+-- the move of the best setup multicycle, by which the hold relation moves, whatever wins for setup; 0 without one
 abbrev pub setup_move : Periods → Option Exception → ℤ
 setup_move periods None = pos 0
 setup_move periods (Some exception) = multicycle_move periods Setup exception.value exception.by_launch
 
--- the relation of a side where no delay wins
+-- the relation of a side before its winner changes it: the hold relation moved by this shift
 abbrev pub base_relation : Side → Relation → ℤ → ℤ
 base_relation Setup relation shift = relation.setup
 base_relation Hold relation shift = relation.hold +ℤ shift

@@ -1,6 +1,7 @@
 -- The grammar of lists (Tcl), as relations between a text, its items and the fault that ends them. Items are parted by
 -- spaces, newlines and continued lines. Braces, quotes and backslashes act in an item as in a word of a command, while
--- `$`, `[`, `]`, `;` and `#` stand for themselves. It reads: the items stand in a row, and the text ends, or one breaks.
+-- `$`, `[`, `]`, `;` and `#` stand for themselves. It reads: the items stand in a row, and the text ends, or one
+-- breaks.
 use Rattle.std.specs.Prelude.{◌≡◌, ◌++◌, ◌||◌, ◌&&◌, ◌==◌, ℕ, Bool, true, false, List, [], ◌∷◌, Option, Some, None, Result, Ok, Err, if◌then◌else◌}
 use Rattle.source_types.specs.declared.kinds.TclKind.{TclKind}
 use Rattle.source_types.specs.declared.kinds.TclKind.TheVariants.{ExtraAfterBrace, Unclosed}

@@ -1,6 +1,7 @@
 -- The items of a list (Tcl) as a function of its text: what the grammar of lists relates to the text, step by step.
--- `list_is_one` of `tcl_words` says that it gives just what the grammar relates. Each step leaves less of the text than it
--- found, so that one more step than the text has bytes is enough, and what stands for no step at all is never asked for.
+-- `list_is_one` of `tcl_words` says that it gives just what the grammar relates. Each step leaves less of the text than
+-- it found, so that one more step than the text has bytes is enough, and what stands for no step at all is never asked
+-- for.
 use Rattle.std.specs.Prelude.{ℕ, zero, suc, List, [], ◌∷◌, Option, Some, None, Result, Ok, Err, length}
 use Rattle.std.specs.Result.{result_ok}
 use Rattle.source_types.specs.declared.kinds.TclKind.{TclKind}

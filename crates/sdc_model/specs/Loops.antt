@@ -1,6 +1,7 @@
 -- Loops of a timing graph, and conflicts of modes: which one is answered. This project's own rule.
--- It reads: a loop is a cycle of alive arcs that launch nothing, its nodes in the direction of the arcs. The answered one
--- begins at the least node that lies on a loop, is the shortest from there, and of these the least as a list of nodes.
+-- It reads: a loop is a cycle of alive arcs that launch nothing, its nodes in the direction of the arcs. The answered
+-- one begins at the least node that lies on a loop, is the shortest from there, and of these the least as a list of
+-- nodes.
 use Rattle.std.specs.Prelude.{◌≡◌, ◌<◌, ◌≤◌, ◌⊎◌, ℕ, List, [], ◌∷◌, length, Some, slice_get}
 use Rattle.timing_types.specs.declared.analyses.Cycle.{Cycle}
 use Rattle.timing_types.specs.declared.graphs.Arc.{Arc}

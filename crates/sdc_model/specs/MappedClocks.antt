@@ -1,5 +1,5 @@
--- A mode's exceptions, kept commands and clock edges in the words of a merge: each clock is the merged clock that it is.
--- This project's own rule. The merged clocks of a mode's clocks stand as a list of numbers, by place.
+-- A mode's exceptions, kept commands and clock edges in the words of a merge: each clock is the merged clock that it
+-- is. This project's own rule. The merged clocks of a mode's clocks stand as a list of numbers, by place.
 -- Lists of clocks, and of objects with clocks among them, are put in order again.
 use Rattle.std.specs.Prelude.{◌≡◌, ◌==◌, ◌&&◌, ◌||◌, ℕ, Bool, List, [], ◌∷◌, map, Option, Some, None, slice_get, nat_lt, if◌then◌else◌}
 use Rattle.std.specs.Option.{unwrap_or}

@@ -1,7 +1,7 @@
 -- Which paths an exception matches (SDC 2.1, `set_false_path` and the like). That through lists are met at strictly
 -- later nodes, in order, is this project's own rule.
--- It reads: the exception is of the side, its ends are the path's, and there are rising places on the whole path, one for
--- each through list, each with a node of the list. The first and the last node of the path count.
+-- It reads: the exception is of the side, its ends are the path's, and there are rising places on the whole path, one
+-- for each through list, each with a node of the list. The first and the last node of the path count.
 use Rattle.std.specs.Prelude.{◌≡◌, ◌<◌, ◌↔◌, ℕ, true, List, Option, Some, None, slice_get, reverse, length}
 use Rattle.std.specs.List.{Contains, AllZip}
 use Rattle.timing_types.specs.declared.constraints.Exception.{Exception}

@@ -1,6 +1,6 @@
 -- The merged mode of several modes with a given set of delays and given further lines. This project's own rule.
--- It reads: the merged clocks are those of clock identity; two are exclusive where no mode has both and lets them be timed;
--- then the parts that the modes have in common, and the exceptions that are carried with the set of delays.
+-- It reads: the merged clocks are those of clock identity; two are exclusive where no mode has both and lets them be
+-- timed; then the parts that the modes have in common, and the exceptions that are carried with the set of delays.
 use Rattle.std.specs.Prelude.{◌≡◌, List, [], ◌++◌, length}
 use Rattle.timing_types.specs.declared.constraints.Exception.{Exception}
 use Rattle.timing_types.specs.declared.designs.Design.{Design}

@@ -1,7 +1,7 @@
 -- The merged mode of several modes of clocks and clock groups. This project's own rule.
 -- It reads: the merged clocks are those of clock identity, over the modes with their own waveforms; the exclusive ones
 -- are exactly those that no mode has both of and lets be timed; there is no other part, and nothing is listed or left.
-use Rattle.std.specs.Prelude.{◌≡◌, ℕ, List, [], length}
+use Rattle.std.specs.Prelude.{◌≡◌, List, [], length}
 use Rattle.timing_types.specs.declared.merges.Merged.{Merged}
 use Rattle.timing_types.specs.declared.modes.Mode.{Mode}
 use Rattle.sdc_model.specs.ClockIdentity.{IsClockMap}

@@ -1,6 +1,6 @@
 -- What mode files say, read one after the other: all their modes, or the first fault with its line. This project's own.
--- Of one file first its length counts, then what it says, then the number of clocks of the files so far: one that passes the
--- most has the line of its first clock beyond them. A file that is too long has line 0.
+-- Of one file first its length counts, then what it says, then the number of clocks of the files so far: one that
+-- passes the most has the line of its first clock beyond them. A file that is too long has line 0.
 use Rattle.std.specs.Prelude.{◌≡◌, ◌+◌, ◌<◌, ◌≤◌, ◌⊎◌, ℕ, suc, List, [], ◌∷◌, length, Option, Some, None, Result, Ok, Err}
 use Rattle.sdc_base.specs.declared.memory.At.{At}
 use Rattle.sdc_base.specs.declared.outside.NamedBytes.{NamedBytes}

@@ -1,9 +1,9 @@
--- The host of a mode file's script: what it answers to each command, and what it leaves (SDC 2.1). It knows `create_clock`,
--- `set_clock_groups`, `set_units` and `get_clocks`; every other name is out of profile, which is this project's own.
--- It reads: by the clocks and groups so far, what a command gives and what stands behind it, or its fault.
+-- The host of a mode file's script: what it answers to each command, and what it leaves (SDC 2.1). It knows
+-- `create_clock`, `set_clock_groups`, `set_units` and `get_clocks`; every other name is out of profile, which is this
+-- project's own. It reads: by the clocks and groups so far, what a command gives and what stands behind it, or its
+-- fault.
 use Rattle.std.specs.Prelude.{◌≡◌, ◌++◌, ℕ, Bool, List, [], ◌∷◌, codes, Option, Some, None, Result, Ok, Err, if◌then◌else◌}
 use Rattle.timing_types.specs.declared.clocks.Clock.{Clock}
-use Rattle.source_types.specs.declared.kinds.Kind.{Kind}
 use Rattle.source_types.specs.declared.kinds.Kind.TheVariants.{Sdc}
 use Rattle.source_types.specs.declared.kinds.SdcKind.{SdcKind}
 use Rattle.source_types.specs.declared.kinds.SdcKind.TheVariants.{OutOfProfile}

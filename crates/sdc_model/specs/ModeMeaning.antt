@@ -1,6 +1,6 @@
--- What the bytes of a mode file say: a mode, or their first fault with its line. They are a text that is run as a script
--- (Tcl) over the host of mode files, and the mode is that of what is left; bytes that are no text are a fault of the line of
--- the first byte that is none. This project's own.
+-- What the bytes of a mode file say: a mode, or their first fault with its line. They are a text that is run as a
+-- script (Tcl) over the host of mode files, and the mode is that of what is left; bytes that are no text are a fault of
+-- the line of the first byte that is none. This project's own.
 use Rattle.std.specs.Prelude.{◌≡◌, ◌⊎◌, ℕ, List, Result, Ok, Err}
 use Rattle.std.specs.Str.{IsUtf8}
 use Rattle.sdc_base.specs.declared.memory.At.{At}

@@ -1,6 +1,6 @@
--- The commands by their names (Tcl): those that are built in, one rule each, and all others, which are calls of the host.
--- Here stand `set`, and `expr`, `foreach` and `if`, which run expressions and bodies; a body opens a level as a bracket
--- does. It reads: by the values of a command's words, what it gives and what it does to the world.
+-- The commands by their names (Tcl): those that are built in, one rule each, and all others, which are calls of the
+-- host. Here stand `set`, and `expr`, `foreach` and `if`, which run expressions and bodies; a body opens a level as a
+-- bracket does. It reads: by the values of a command's words, what it gives and what it does to the world.
 use Rattle.std.specs.Prelude.{◌++◌, ℕ, Bool, List, [], ◌∷◌, map, Option, Some, None, Ok, codes, if◌then◌else◌}
 use Rattle.source_types.specs.declared.built_ins.Branch.{Branch}
 use Rattle.source_types.specs.declared.built_ins.Branches.{Branches}

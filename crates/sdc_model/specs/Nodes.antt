@@ -28,7 +28,8 @@ node_number node = 2 * node.pin.0 + edge_number node.edge
 abbrev pub node_numbers : List Node → List ℕ
 node_numbers = map node_number
 
--- a list of nodes comes before another, or is it: node by node, by their numbers, a list before those that go on from it
+-- a list of nodes comes before another, or is it: node by node, by their numbers, a list before those that go on from
+-- it
 abbrev pub IsAtMost : List Node → List Node → Type 0
 IsAtMost nodes others = is_le (slice_cmp nat_cmp (node_numbers nodes) (node_numbers others)) ≡ true
 

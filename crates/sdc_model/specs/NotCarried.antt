@@ -1,7 +1,8 @@
 -- The commands of the modes that a merged mode does not carry. This project's own rule.
 -- It reads: a mode, a line and a command name are left where an exception, case value, disable or kept command of that
--- name on that line is not carried; each once, by mode, line and name. Clocks, groups and delays of ports are never left.
-use Rattle.std.specs.Prelude.{◌≡◌, ◌⊎◌, ◌↔◌, ℕ, true, List, [], ◌∷◌, codes, Option, Some, None, slice_get}
+-- name on that line is not carried; each once, by mode, line and name. Clocks, groups and delays of ports are never
+-- left.
+use Rattle.std.specs.Prelude.{◌≡◌, ◌⊎◌, ◌↔◌, ℕ, true, List, ◌∷◌, codes, Option, Some, None, slice_get}
 use Rattle.std.specs.List.{Contains}
 use Rattle.std.specs.Ordering.{nat_cmp, is_lt, ordering_then}
 use Rattle.std.specs.Cmp.Lexicographic.{slice_cmp}

@@ -26,7 +26,7 @@ pub data Piece : Type 0 where
 abbrev pub PieceFront : Type 0
 PieceFront = Front Piece (List ℕ) (Result (List ℕ) TclKind)
 
--- a byte that ends a word
+-- a byte that ends a word; none ends a braced one, which is read without its closing brace
 abbrev pub ends_word : Form → ℕ → Bool
 ends_word braced b = false
 ends_word quoted b = b == 34

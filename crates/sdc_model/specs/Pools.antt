@@ -1,6 +1,6 @@
 -- The pools that classes are found over: that of one mode, and that of a merge. This project's own rule.
--- It reads: an edge launches at a register's node where it arrives, and at both nodes of an input port that has an input
--- delay to it. The pool of a merge has the arcs alive in the merged mode, and the exceptions of all modes.
+-- It reads: an edge launches at a register's node where it arrives, and at both nodes of an input port that has an
+-- input delay to it. The pool of a merge has the arcs alive in the merged mode, and the exceptions of all modes.
 use Rattle.std.specs.Prelude.{◌≡◌, ◌<◌, ◌⊎◌, ◌↔◌, ℕ, Bool, List, [], ◌∷◌, map, Some, slice_get}
 use Rattle.std.specs.List.{All, Contains, flat_map}
 use Rattle.timing_types.specs.declared.class_sets.Launched.{Launched}

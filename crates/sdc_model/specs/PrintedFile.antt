@@ -1,8 +1,9 @@
 -- The file that a design and a mode are printed as (commands of SDC 2.1): its lines, each by its words, and its bytes.
 -- The choice of the commands, their options and their order is this project's own.
 -- It reads: the header, then a line for each clock, then one for each clock with later clocks that are exclusive to it.
--- Sources, generated clocks, settings and all other parts are not printed yet: `IsPrintable` says which modes a file gives back.
-use Rattle.std.specs.Prelude.{◌≡◌, ◌<◌, ◌^◌, ◌==◌, ◌⊎◌, ℕ, suc, ℤ, pos, unsigned_abs, ◌+ℤ◌, ◌≤ℤ◌, ◌<ℤ◌, Bool, false, IsTrue, List, [], ◌∷◌, ◌++◌, length, map, codes, Option, Some, None, slice_get, if◌then◌else◌}
+-- Sources, generated clocks, settings and all other parts are not printed yet: `IsPrintable` says which modes are
+-- printed whole. A file gives such a mode back where the unit is 1 ns and its clocks are not too many for a file.
+use Rattle.std.specs.Prelude.{◌≡◌, ◌<◌, ◌^◌, ◌==◌, ◌⊎◌, ℕ, suc, ℤ, pos, unsigned_abs, ◌+ℤ◌, ◌≤ℤ◌, ◌<ℤ◌, false, IsTrue, List, [], ◌∷◌, ◌++◌, length, map, codes, Option, Some, None, slice_get, if◌then◌else◌}
 use Rattle.std.specs.List.{filter}
 use Rattle.sdc_base.specs.Time.{IsUnit, time_text_of}
 use Rattle.timing_types.specs.declared.clocks.Clock.{Clock}
@@ -14,7 +15,7 @@ use Rattle.timing_types.specs.declared.designs.Design.{Design}
 use Rattle.timing_types.specs.declared.modes.Mode.{Mode}
 use Rattle.sdc_model.specs.ClockFile.{is_name, is_taken, virtual_clock}
 use Rattle.sdc_model.specs.PlainViews.{without_line}
-use Rattle.sdc_model.specs.PrintedLine.{PrintedWord, bare, spaced, lines_text, name_word, list_word, query_word}
+use Rattle.sdc_model.specs.PrintedLine.{PrintedWord, bare, lines_text, name_word, list_word, query_word}
 
 -- the time unit of a library as Liberty and SDC name it
 unfoldable pub unit_text : ℤ → List ℕ
@@ -97,7 +98,8 @@ printed_lines design mode =
 unfoldable pub printed_file : Design → Mode → List ℕ
 printed_file design mode = lines_text (printed_lines design mode)
 
--- a waveform that a line can give: a period of 2 to 10^12 fs, in which it rises, and one fall before the next rise
+-- a waveform that a line can give: a period of 2 to 10^12 fs, in which it rises, and one fall, behind the rise and
+-- before the next one, at 10^12 fs at most
 pub record IsPrintableWave (wave : Wave) : Type 0 where
   pub period : (pos 2 ≤ℤ wave.period) × (wave.period ≤ℤ pos (10 ^ 12))
   pub rise : (pos 0 ≤ℤ wave.rise) × (wave.rise <ℤ wave.period)
@@ -151,6 +153,7 @@ pub record IsPrintable (design : Design) (mode : Mode) : Type 0 where
   pub pairs : ArePairs (length mode.clocks) mode.exclusive
   pub alone : IsOfClocks mode
 
--- a mode apart from the lines of the commands that made its clocks; other parts with lines are to join here when they are printed
+-- a mode apart from the lines of the commands that made its clocks; other parts with lines are to join here when they
+-- are printed
 abbrev pub without_lines : Mode → Mode
 without_lines mode = record mode { clocks = map without_line mode.clocks }

@@ -1,5 +1,5 @@
--- The lines of a printed constraint file, each a list of words: how words, lines and lists of names are spelled in bytes,
--- in the part of Tcl that this project writes. Which words stand bare is its own rule.
+-- The lines of a printed constraint file, each a list of words: how words, lines and lists of names are spelled in
+-- bytes, in the part of Tcl that this project writes. Which words stand bare is its own rule.
 -- A word is given by what stands in it; a line has one blank between two words and a newline at its end.
 use Rattle.std.specs.Prelude.{ℕ, Bool, List, [], ◌∷◌, ◌++◌, ◌==◌, ◌||◌, ◌&&◌, length, map, codes, nat_lt, if◌then◌else◌}
 use Rattle.std.specs.List.{list_all, concat, join_with_byte}

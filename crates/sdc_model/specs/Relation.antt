@@ -1,6 +1,7 @@
 -- The setup and the hold relation of a launch edge and a capture edge, by this project's own rule.
 -- A clock of period p with an edge at a has edges at a, a + p, a + 2 p and so on; times are whole femtoseconds.
--- It reads: of all differences between a capture edge and a launch edge, setup is the least one above 0, hold the greatest one that is not.
+-- It reads: of all differences between a capture edge and a launch edge, setup is the least one above 0, hold the
+-- greatest one that is not.
 use Rattle.std.specs.Prelude.{◌≡◌, ℕ, ◌*◌, ◌^◌, ℤ, pos, ◌+ℤ◌, ◌-ℤ◌, ◌*ℤ◌, ◌≤ℤ◌, ◌<ℤ◌}
 use Rattle.timing_types.specs.declared.edge_times.Relation.{Relation}
 

@@ -13,6 +13,6 @@ abbrev pub Row : {Thing Place End : Type 0} → (Place → Front Thing Place End
 Row Stands [] place end = Stands place (stops end)
 Row {Place = P} Stands (thing ∷ things) place end = (next : P) × Stands place (found thing next) × Row Stands things next end
 
--- two relations of a place are one
+-- a relation says at most one thing of a place: what is found there, or what stops the row
 abbrev pub HasOne : {Thing Place End : Type 0} → (Place → Front Thing Place End → Type 0) → Place → Type 0
 HasOne {Thing = T} {Place = P} {End = E} Stands place = (f g : Front T P E) → Stands place f → Stands place g → f ≡ g

@@ -1,7 +1,7 @@
 -- How much a run may hold: modes, clocks, exceptions, through lists of one exception, and inner through lists. This
--- project's own. It reads: a through list is inner where it has a pin that is neither a port nor a launching nor a checked
--- pin. Over a design ports are known by their roles; over a pool a pin that no arc enters, or that none leaves, counts as one.
--- What is beyond a limit is told by the line of the first command that passes it.
+-- project's own. It reads: a through list is inner where it has a pin that is neither a port nor a launching nor a
+-- checked pin. Over a design ports are known by their roles; over a pool a pin that no arc enters, or that none leaves,
+-- counts as one. What is beyond a limit is told by the line of the first command that passes it.
 use Rattle.std.specs.Prelude.{◌≡◌, ◌+◌, ◌*◌, ◌^◌, ◌≤◌, ◌==◌, ◌&&◌, ◌||◌, ℕ, ℤ, unsigned_abs, Bool, true, false, not, List, [], ◌∷◌, length, Option, Some, None, nat_lt, if◌then◌else◌}
 use Rattle.std.specs.List.{All, count_by, flat_map, list_any}
 use Rattle.timing_types.specs.declared.class_sets.Pool.{Pool}
@@ -115,7 +115,8 @@ line_too_many design graph before mode =
 
 -- ---- merges
 
--- a delay that a merge does not take, since a printed value could not be read again
+-- a delay that a merge does not take, since a printed value could not be read again: one of a magnitude above
+-- 5 * 10 ^ 15 femtoseconds; just this much is taken
 abbrev pub is_long_delay : ExCommand → ℤ → Bool
 is_long_delay Delay value = nat_lt (5 * 10 ^ 15) (unsigned_abs value)
 is_long_delay _ value = false

@@ -87,7 +87,7 @@ abbrev pub RunsWithin : {State : Type 0} → Level State → List ℕ → Turn (
 RunsWithin level script before given after =
     (told : Told) × RunsText (RunsCommand level) script before told after × (given ≡ without_line told)
 
--- a bracket: an index stands for itself, and is no command
+-- a bracket, whose level is open already: an index stands for itself in its brackets, and is no command
 abbrev pub RunsBracket : {State : Type 0} → Level State → List ℕ → Bool → Turn (World State) Value
 RunsBracket level script true before given after = Answers (Ok (value.Text (91 ∷ (script ++ 93 ∷ [])))) before given after
 RunsBracket level script false before given after = RunsWithin level script before given after

@@ -1,6 +1,7 @@
 -- Why a mode cannot be checked or explained, and why modes cannot be merged. This project's own rule.
--- It reads: a refusal comes where its cause stands and none before it does. First stands the first fault of an analysis, by
--- mode; then that a name is no endpoint, or a conflict of modes; then a loop; then that there are too many classes.
+-- It reads: a refusal comes where its cause stands and none before it does. First stands the first fault of an
+-- analysis, by mode; then that a name is no endpoint, or a conflict of modes; then a loop; then that there are too many
+-- classes.
 use Rattle.std.specs.Prelude.{◌≡◌, ◌<◌, ◌⊎◌, ℕ, Bool, List, [], map, Some, Ok, Err, slice_get}
 use Rattle.std.specs.List.{AllZip}
 use Rattle.sdc_base.specs.declared.memory.At.{At}

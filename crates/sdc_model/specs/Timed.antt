@@ -1,5 +1,5 @@
--- Which paths are timed in an analysis, on which side and with which limit. What launches and captures is SDC 2.1's; that
--- a side needs a check of that side, and each delay concerned a value for it, is this project's own rule.
+-- Which paths are timed in an analysis, on which side and with which limit. What launches and captures is SDC 2.1's;
+-- that a side needs a check of that side, and each delay concerned a value for it, is this project's own rule.
 -- It reads: a path is a candidate on a side where its arcs are alive, both clock edges are there on that side, and its
 -- clocks are not exclusive. It is timed where it is a candidate and has a limit, which it has but under a false path.
 use Rattle.std.specs.Prelude.{◌≡◌, ◌⊎◌, ℕ, ℤ, List, [], ◌∷◌, Option, Some}

@@ -1,6 +1,6 @@
 -- What a Verilog file is read as: the modules that it means, or its first fault. The faults and their order are this
--- project's own: a file that is no text; a break of the grammar, at the first token that no text has behind those before it,
--- or on the line of the last byte where the text ends too early; and then all others by their place.
+-- project's own: a file that is no text; a break of the grammar, at the first token that no text has behind those
+-- before it, or on the line of the last byte where the text ends too early; and then all others by their place.
 use Rattle.std.specs.Prelude.{◌≡◌, ◌⊎◌, ◌||◌, ◌&&◌, ◌==◌, ◌++◌, ℕ, Bool, true, false, not, List, [], ◌∷◌, length, map, Option, Some, None, Result, Ok, Err, nat_le, slice_get, if◌then◌else◌}
 use Rattle.std.specs.List.{filter, flat_map, list_any}
 use Rattle.std.specs.Str.{IsUtf8}
@@ -13,11 +13,12 @@ use Rattle.source_types.specs.declared.verilog_tokens.VerilogSymbol.TheVariants.
 use Rattle.sdc_model.specs.LastLine.{broken_text_line, last_line_of}
 use Rattle.sdc_model.specs.Ranges.{width}
 use Rattle.sdc_model.specs.VerilogGrammar.{verilog}
-use Rattle.sdc_model.specs.VerilogKinds.{is_among, kinds_of}
+use Rattle.sdc_model.specs.VerilogKinds.{kinds_of}
 use Rattle.sdc_model.specs.VerilogNets.{bits_of, is_of, is_port, is_port_of, meant_module, pieces_in, range_named}
 use Rattle.sdc_model.specs.VerilogStatements.{Sides, Statement, Written, assigns, declarations, declares, modules_of, places}
 use Rattle.sdc_model.specs.VerilogSyntax.{Declared, Piece, bit, constant, part, port, tied, whole, wire}
 use Rattle.sdc_model.specs.VerilogTokens.{AreTokens, Token}
+use Rattle.sdc_model.specs.Words.{is_among}
 use Rattle.token_grammar.specs.declared.grammar.Break.{Break}
 use Rattle.token_grammar.specs.declared.grammar.Break.TheVariants as broken
 use Rattle.token_grammar.specs.Texts.{Breaks}

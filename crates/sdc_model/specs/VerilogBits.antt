@@ -1,6 +1,6 @@
 -- The grammar of what is assigned and connected in structural Verilog (IEEE 1364-2005, syntax of nets, constants,
--- concatenations and instances, as far as it is read here). It reads: a symbol that begins with a token is that token with
--- these symbols behind it.
+-- concatenations and instances, as far as it is read here). It reads: a symbol that begins with a token is that token
+-- with these symbols behind it.
 use Rattle.std.specs.Prelude.{List, [], ◌∷◌, Option, Some, None}
 use Rattle.source_types.specs.declared.verilog_tokens.VerilogSymbol.{VerilogSymbol}
 use Rattle.source_types.specs.declared.verilog_tokens.VerilogSymbol.TheVariants.{Token, Assignments, Left, LeftParts, Select, SelectEnd, Index, Bits, Parts, Instances, Connections, Connected, OrderedConnections, NamedConnections}
@@ -64,7 +64,7 @@ instances kind.Comma = Some (Token kind.Name ∷ Token kind.Open ∷ Connections
 instances kind.Semicolon = Some []
 instances _ = None
 
--- none, named ones, or ordered ones, of which the first may be empty
+-- none, named ones, or ordered ones; where a comma stands first, the first of them is empty
 abbrev pub connections : VerilogToken → Behind
 connections kind.Close = Some []
 connections kind.Dot = Some (Token kind.Name ∷ Token kind.Open ∷ Connected ∷ Token kind.Close ∷ NamedConnections ∷ [])

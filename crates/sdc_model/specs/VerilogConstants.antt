@@ -1,6 +1,7 @@
 -- Numbers and sized constants of Verilog (IEEE 1364-2005, integer constants), unsigned, in base two, ten and sixteen.
 -- It reads: the digits give bits from the leftmost on; too many are cut off at the left, and missing ones are filled in
--- there, by what is no source where the leftmost digit is `x` or `z`, and else by 0. A bit that is `x` or `z` has no value.
+-- there, by what is no source where the leftmost digit is `x` or `z`, and else by 0. A bit that is `x` or `z` has no
+-- value.
 use Rattle.std.specs.Prelude.{◌==◌, ◌||◌, ◌&&◌, ◌+◌, ◌-◌, ◌*◌, ◌/◌, ◌%◌, ◌++◌, ℕ, zero, suc, Bool, false, not, List, [], ◌∷◌, Option, Some, None, length, drop, nat_le, if◌then◌else◌}
 use Rattle.std.specs.List.{flat_map, list_all, repeat}
 use Rattle.source_types.specs.declared.verilog_tokens.VerilogToken.{VerilogToken}
@@ -73,7 +74,7 @@ is_nothing b = false
 abbrev pub go_on : (ℕ → Bool) → List ℕ → Bool
 go_on test digits = list_all (λ b. test b || b == 95) digits
 
--- digits of base ten: decimal ones, or one that is no source, alone
+-- digits of base ten: decimal ones, or one that is no source, behind which only `_` may stand
 abbrev pub are_decimal : ℕ → List ℕ → Bool
 are_decimal b bs = if is_open_digit b then go_on is_nothing bs else (is_decimal b && go_on is_decimal bs)
 

@@ -1,6 +1,6 @@
 -- The grammar of structural Verilog (IEEE 1364-2005, syntax of modules, declarations, instances and continuous
--- assignments, as far as it is read here), as a table. It reads: a symbol that begins with a token is that token with these
--- symbols behind it; a source, a select and what is connected may be nothing.
+-- assignments, as far as it is read here), as a table. It reads: a symbol that begins with a token is that token with
+-- these symbols behind it; a source, a select and what is connected may be nothing.
 use Rattle.std.specs.Prelude.{Bool, true, false, [], ◌∷◌, Some, None, if◌then◌else◌}
 use Rattle.source_types.specs.declared.verilog_tokens.VerilogSymbol.{VerilogSymbol}
 use Rattle.source_types.specs.declared.verilog_tokens.VerilogSymbol.TheVariants.{Token, Source, Header, Ports, ListedPorts, DeclaredPort, NamedPort, DeclaredPorts, NextPort, Statements, PortStatements, Declaration, PortDeclaration, Names, Bound, Assignments, Left, LeftParts, Select, SelectEnd, Index, Bits, Parts, Instances, Connections, Connected, OrderedConnections, NamedConnections}

@@ -1,12 +1,11 @@
--- What a token is by what stands before it: a name in a port declaration whose module does not list it, and a brace behind
--- 100 that are open, are tokens that no text of the grammar has. This project's own rule for these two. It reads: a
--- token has its own kind, or one of these two, and leads to what holds behind it.
+-- What a token is by what stands before it: a name in a port declaration whose module does not list it, and a brace
+-- behind 100 that are open, are tokens that no text of the grammar has. This project's own rule for these two. It
+-- reads: a token has its own kind, or one of these two, and leads to what holds behind it.
 use Rattle.std.specs.Prelude.{◌==◌, ◌+◌, ◌-◌, ℕ, Bool, List, [], ◌∷◌, nat_lt, if◌then◌else◌}
-use Rattle.std.specs.List.{list_any}
 use Rattle.source_types.specs.declared.verilog_tokens.VerilogToken.{VerilogToken}
 use Rattle.source_types.specs.declared.verilog_tokens.VerilogToken.TheVariants as kind
 use Rattle.sdc_model.specs.VerilogTokens.{Token}
-use Rattle.sdc_model.specs.Words.{same_text}
+use Rattle.sdc_model.specs.Words.{is_among}
 
 -- a number for each kind
 abbrev pub kind_number : VerilogToken → ℕ
@@ -108,11 +107,7 @@ context_behind context token = record {
   braces = braces_behind context.braces token.kind;
 }
 
--- a name is one of some names
-abbrev pub is_among : List (List ℕ) → List ℕ → Bool
-is_among names name = list_any (λ other. same_text other name) names
-
--- a name that is none of the header's
+-- a name, or, in a port declaration, one that is none of the header's
 abbrev pub name_kind : Part → List (List ℕ) → List ℕ → VerilogToken
 name_kind declaring listed name = if is_among listed name then kind.Name else kind.UnlistedName
 name_kind part listed name = kind.Name

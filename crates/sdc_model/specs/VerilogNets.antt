@@ -16,12 +16,11 @@ use Rattle.source_types.specs.declared.netlists.Port.{Port}
 use Rattle.source_types.specs.declared.netlists.Range.{Range}
 use Rattle.source_types.specs.declared.netlists.Wire.{Wire}
 use Rattle.sdc_model.specs.Ranges.{from_to, indices}
-use Rattle.sdc_model.specs.VerilogKinds.{is_among}
 use Rattle.sdc_model.specs.VerilogStatements.{Connections, Placed, Sides, Statement, Written, assigns, declarations, declares, named, ordered, places}
 use Rattle.sdc_model.specs.VerilogSyntax.{Declared, Piece, Role, bit, constant, part, port, tied, whole, wire}
 use Rattle.sdc_model.specs.VerilogTokens.{Token}
 use Rattle.sdc_model.specs.WellFormedNetlist.{net_of_port}
-use Rattle.sdc_model.specs.Words.{same_text}
+use Rattle.sdc_model.specs.Words.{is_among, same_text}
 
 -- ---- names
 

@@ -1,5 +1,5 @@
--- Modules of a Verilog text as they are written, before names are looked up (IEEE 1364-2005, in the part that is read here):
--- what each declares, its instances and its assignments. It speaks of texts of the grammar.
+-- Modules of a Verilog text as they are written, before names are looked up (IEEE 1364-2005, in the part that is read
+-- here): what each declares, its instances and its assignments. It speaks of texts of the grammar.
 use Rattle.std.specs.Prelude.{◌++◌, ◌-◌, List, [], ◌∷◌, drop, length, map, take, if◌then◌else◌}
 use Rattle.std.specs.List.{after_first, before_first, filter, flat_map, slice_split}
 use Rattle.source_types.specs.declared.verilog_tokens.VerilogToken.{VerilogToken}
@@ -38,7 +38,7 @@ pub record Placed : Type 0 where
   pub name : Token
   pub connections : Connections
 
--- a named connection, behind its dot
+-- a named connection, from its dot on
 abbrev pub named_one : List Token → List (Token × List Piece)
 named_one (dot ∷ port ∷ tokens) = (port, pieces_of tokens) ∷ []
 named_one tokens = []
@@ -74,8 +74,8 @@ abbrev pub statement_of : List Token → Statement
 statement_of [] = declares []
 statement_of (token ∷ tokens) = statement_at token.kind token tokens
 
--- a module as it is written: its name, the ports that its header declares and those that it only lists, its statements, and
--- each `inout`
+-- a module as it is written: its name, the ports that its header declares and those that it only lists, its statements,
+-- and each `inout`
 pub record Written : Type 0 where
   pub name : Token
   pub header : List Declared
@@ -101,7 +101,7 @@ module_of tokens = written_by (slice_split (is kind.Semicolon) tokens) tokens
 abbrev pub modules_of : List Token → List Written
 modules_of tokens = flat_map module_of (drop 1 (slice_split (is kind.Module) tokens))
 
--- all that a module declares, in the order of the text
+-- what a statement declares, and all that a module declares, in the order of the text
 abbrev pub declared_by : Statement → List Declared
 declared_by (declares all) = all
 declared_by (assigns all) = []

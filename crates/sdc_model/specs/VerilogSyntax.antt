@@ -1,6 +1,7 @@
--- What the tokens of a Verilog text declare and connect, token by token, before names are looked up (IEEE 1364-2005, in the
--- part that is read here). It speaks of texts of the grammar, whose shape it uses: modules begin at `module`, statements end
--- at `;`, what is listed is parted by commas outside brackets, and a range is the two numbers of its declaration.
+-- What the tokens of a Verilog text declare and connect, token by token, before names are looked up (IEEE 1364-2005, in
+-- the part that is read here). It speaks of texts of the grammar, whose shape it uses: modules begin at `module`,
+-- statements end at `;`, what is listed is parted by commas outside parentheses and braces, and a range is the two
+-- numbers of its declaration.
 use Rattle.std.specs.Prelude.{◌==◌, ◌||◌, ◌&&◌, ◌+◌, ◌-◌, ◌++◌, ℕ, Bool, true, false, List, [], ◌∷◌, Option, Some, None, map, if◌then◌else◌}
 use Rattle.std.specs.List.{before_first, filter, list_any}
 use Rattle.source_types.specs.declared.library_cells.Direction.{Direction}
@@ -76,7 +77,8 @@ header_lists tokens = if list_any is_direction tokens then [] else filter (is ki
 
 -- ---- what is connected
 
--- a part of what is connected or assigned: a net, a bit or a part of one, by the token of its name, or a constant's bits
+-- a part of what is connected or assigned: a net, a bit or a part of one, by the token of its name, or a constant's
+-- bits
 pub data Piece : Type 0 where
   whole : Token → Piece
   bit : Token → ℕ → Piece
@@ -120,7 +122,7 @@ abbrev pub net_pieces : List Token → List Piece
 net_pieces [] = []
 net_pieces (token ∷ tokens) = (if is kind.Name token then net_piece token tokens ∷ [] else []) ++ net_pieces tokens
 
--- the depth behind a token that stands at a depth of brackets
+-- the depth behind a token that stands at a depth of parentheses and braces
 abbrev pub depth_behind : ℕ → VerilogToken → ℕ
 depth_behind depth kind.Open = depth + 1
 depth_behind depth kind.OpenBrace = depth + 1
@@ -133,7 +135,7 @@ abbrev pub onto : Token → List (List Token) → List (List Token)
 onto token [] = (token ∷ []) ∷ []
 onto token (first ∷ parts) = (token ∷ first) ∷ parts
 
--- what commas outside all brackets part
+-- what commas outside all parentheses and braces part; no tokens are one empty part
 abbrev pub parts_at : ℕ → List Token → List (List Token)
 parts_at depth [] = [] ∷ []
 parts_at depth (token ∷ tokens) =

@@ -18,8 +18,8 @@ use Rattle.sdc_model.specs.VerilogWords.{word_kind}
 abbrev pub is_blank : ℕ → Bool
 is_blank b = b == 32 || b == 9 || b == 13 || b == 10
 
--- what is being passed over: nothing yet; the rest of a line; what a mark and this byte close, its opening included;
--- and the last byte of what closes it
+-- what is being passed over: nothing yet; the rest of a line; the star that opens what a star and this byte close; what
+-- stands inside; and the last byte of what closes it
 pub data Gap : Type 0 where
   between : Gap
   rest_of_line : Gap

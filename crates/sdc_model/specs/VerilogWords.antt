@@ -1,5 +1,5 @@
--- The keywords of Verilog (IEEE 1364-2005, annex on keywords). A word that is one is no name; the grammar here has ten of
--- them, and every other is a token that no text of it has.
+-- The keywords of Verilog (IEEE 1364-2005, annex on keywords). A word that is one is no name; the grammar here has ten
+-- of them, and every other is a token that no text of it has.
 use Rattle.std.specs.Prelude.{ℕ, List, [], ◌∷◌, codes, if◌then◌else◌}
 use Rattle.std.specs.List.{list_any}
 use Rattle.source_types.specs.declared.verilog_tokens.VerilogToken.{VerilogToken}

@@ -25,7 +25,7 @@ abbrev pub edge_of_master : Times → ℕ → ℕ
 edge_of_master master edge =
     if edge % 2 == 1 then master.rise + (edge / 2) * master.period else master.fall + (edge / 2 - 1) * master.period
 
--- divided by a power of two above 1 a clock falls at half its new period, else its pulse is as many times as long
+-- divided by a power of two above 1 a clock falls half its new period after its rise, else its pulse is n times as long
 abbrev pub divided_fall : Times → ℕ → ℕ
 divided_fall master n =
     if nat_lt 1 n && is_power_of_two n then master.rise + (n / 2) * master.period

@@ -1,7 +1,8 @@
 -- Well-formed designs: what flattening gives, and every call over a design takes. This project's own form of a netlist
 -- (IEEE 1364-2005) over a library (Liberty).
 -- It reads sentence by sentence: places are in range, the pins of a cell stand as its library cell has them, drivers
--- drive, and names can be printed, are read again as they are, and are each the name of one object.
+-- drive, and names can be printed, are read again as they are, and are each the name of one pin, of one cell and of one
+-- net at most.
 use Rattle.std.specs.Prelude.{◌≡◌, ◌+◌, ◌<◌, ◌≤◌, ◌==◌, ◌&&◌, ◌⊎◌, ℕ, Bool, true, false, not, List, [], ◌∷◌, ◌++◌, length, map, codes, Option, Some, None, slice_get, nat_lt, if◌then◌else◌}
 use Rattle.std.specs.List.{All, list_all, list_any}
 use Rattle.sdc_base.specs.Time.{IsUnit}
@@ -74,12 +75,13 @@ role_in_cell direction.Input = CellIn
 role_in_cell direction.Output = CellOut
 role_in_cell direction.Other = CellOther
 
--- what drives is a cell output or an input port of the design
+-- a driver that is a pin is a cell output or an input port of the design
 abbrev pub IsDriver : Design → Source → Type 0
 IsDriver design (source.Pin pin) = (role_of design pin.0 ≡ Some CellOut) ⊎ IsInputPort design pin.0
 IsDriver design _ = Unit {0}
 
--- a pin is the pin of a library cell's place in the cell at a place; its name is the cell's, `/`, and its own there
+-- a pin is the pin of a library cell's place in the cell at a place; its name is the cell's, `/`, and its own there,
+-- which is not empty
 pub record IsCellPin (place : ℕ) (cell : CellInfo) (lib_pin : LibPin) (at : ℕ) (info : PinInfo) : Type 0 where
   pub in_cell : info.cell ≡ Some place
   pub at_place : info.lib_pin ≡ at

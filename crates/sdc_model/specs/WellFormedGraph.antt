@@ -1,6 +1,6 @@
 -- Well-formed graphs, pools and views. This project's own.
 -- It reads: pins are in range; arcs are in order, each once, and none but launch arcs leaves a launching or a checked
--- pin; a view's clocks, waves and merged clocks are those of its mode.
+-- pin; a view's clock edges and waves are those of its mode, and no two of its clocks are one merged clock.
 use Rattle.std.specs.Prelude.{◌≡◌, ◌<◌, ◌⊎◌, ℕ, Bool, List, length, Option, Some, Ok}
 use Rattle.std.specs.List.{All, Contains}
 use Rattle.timing_types.specs.declared.class_sets.Launched.{Launched}

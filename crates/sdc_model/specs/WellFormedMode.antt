@@ -1,5 +1,5 @@
--- Well-formed modes over a design: what reading a constraint file gives (SDC 2.1). The bounds of numbers and the orders of
--- lists are this project's own.
+-- Well-formed modes over a design: what reading a constraint file gives (SDC 2.1). The bounds of numbers and the orders
+-- of lists are this project's own.
 -- It reads part by part: clocks, exclusive pairs, case values, disables, port delays, exceptions and kept commands.
 use Rattle.std.specs.Prelude.{◌≡◌, ◌<◌, ◌≤◌, ◌^◌, ◌⊎◌, ℕ, ℤ, pos, unsigned_abs, Bool, false, List, [], ◌∷◌, length, map, Option, Some, None, slice_get}
 use Rattle.std.specs.List.{All, Contains}

@@ -1,6 +1,7 @@
--- Well-formed netlists: what reading a Verilog text gives, and what flattening takes (IEEE 1364-2005). This project's own
--- choice of facts. It reads sentence by sentence: names are each the name of one module, and of one net; nets begin with the
--- ports; bits name nets that are there; and the sides of an assignment have one width.
+-- Well-formed netlists: what reading a Verilog text gives, and what flattening takes (IEEE 1364-2005). This project's
+-- own choice of facts. It reads sentence by sentence: names are each the name of one module, and of one net; ports are
+-- inputs and outputs alone; nets begin with the ports; bits name nets that are there; and the sides of an assignment
+-- have one width, with no constant on the left.
 use Rattle.std.specs.Prelude.{◌≡◌, ◌++◌, ◌≤◌, ◌⊎◌, ℕ, List, length, map, Option, Some, None}
 use Rattle.std.specs.List.{All, AllZip, Contains, flat_map}
 use Rattle.source_types.specs.declared.library_cells.Direction.TheVariants as direction

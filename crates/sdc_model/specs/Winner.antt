@@ -1,7 +1,7 @@
 -- Which of the exceptions that match a path holds on a side. The whole rule of precedence is this project's own.
--- It reads: false paths stand before delays and delays before multicycles; then those with more said of their ends; then
--- the one with the strictest relation; then the first in the list. One that stands before every other one holds.
--- Which exceptions match is given as a predicate over their places.
+-- It reads: false paths stand before delays and delays before multicycles; then those with the greater flags, by what
+-- is given as ends and through lists; then the one with the strictest relation; then the first in the list. One that
+-- stands before every other one holds. Which exceptions match is given as a predicate over their places.
 use Rattle.std.specs.Prelude.{◌≡◌, ◌≢◌, ◌+◌, ◌*◌, ◌<◌, ◌⊎◌, ℕ, ℤ, pos, neg_ℤ, ◌*ℤ◌, ◌-ℤ◌, ◌<ℤ◌, Bool, List, [], ◌∷◌, Option, Some, None, slice_get, if◌then◌else◌}
 use Rattle.timing_types.specs.declared.constraints.ExCommand.{ExCommand}
 use Rattle.timing_types.specs.declared.constraints.ExCommand.TheVariants.{FalsePath, Delay, Multicycle}

@@ -10,7 +10,7 @@ pub record Gathered : Type 0 where
   pub parts : List Part
   pub pending : List ℕ
 
--- the parts, with a text behind them
+-- the parts, with a text behind them; an empty text adds none
 abbrev pub with_text : List Part → List ℕ → List Part
 with_text parts [] = parts
 with_text parts (b ∷ bs) = parts ++ Text (b ∷ bs) ∷ []

@@ -60,7 +60,8 @@ none_from place (pair ∷ pairs) f =
     let n : pair.first ≡ place → ⊥ = λ e. omega (arith, f.0) in
     exclusive_other place pair pairs n ∙ none_from place pairs f.1
 
--- as many pairs from the front on are the run of a place: they are all that have it, and the others are from the next on
+-- as many pairs from the front on are the run of a place: they are all that have it, and the others are from the next
+-- on
 pub record TakesRun (count place size : ℕ) (pairs : List Pair) : Type 0 where
   pub group : exclusive_to place pairs ≡ seconds (take size pairs)
   pub order : ArePairs count (drop size pairs)

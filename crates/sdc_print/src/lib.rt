@@ -1,8 +1,9 @@
 //! Printing: the constraint file (SDC 2.1) that a design and a mode are written as.
 //!
 //! It gives the layer above `print`, the bytes of the file, `printed_length`, their number without making them, and
-//! `length_with_group`, that of a front and one line of exclusive clocks. All run the same code, into a `Sink` that keeps the bytes or
-//! counts them. How each line looks is defined in `sdc_model`. It leaves reading the file back to the crates that read, and writing it to the caller.
+//! `length_with_group`, that of a front and one line of exclusive clocks. All run the same code, into a `Sink` that
+//! keeps the bytes or counts them. How each line looks is defined in `sdc_model`. It leaves reading the file back to
+//! the crates that read, and writing it to the caller.
 #![tactic(auto)]
 
 mod clock_printing;

@@ -89,7 +89,8 @@ fn the_line_of_one_clock_too_many(rt: HostRuntime) -> Result<(), Fail> {
     )
 }
 
-/// The call of the outputs that fails, and what is left of the line, 16 bytes a call: its failing changes no exit number.
+/// The call of the outputs that fails, and what is left of the line, 16 bytes a call: its failing changes no exit
+/// number.
 static CUT_LINES: [(u64, &str); 3] = [
     (1, ""),
     (2, "bad:1: OutOfProf"),

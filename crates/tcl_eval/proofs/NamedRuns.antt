@@ -1,5 +1,5 @@
--- Commands that are run by their words and names, items of `foreach`, and conditions of `if`: whatever those behind give,
--- all give.
+-- Commands that are run by their words and names, items of `foreach`, and conditions of `if`: whatever those behind
+-- give, all give.
 use Rattle.std.proofs.Common.{◌≡◌, ◌+◌, ℕ, Bool, true, false, List, [], ◌∷◌, length, get_or, arith, Option, Result, Ok, Err, refl, sym, ap, subst, ◌∙◌, inl}
 use Rattle.sdc_base.specs.Gives.{Gives, Meets}
 use Rattle.sdc_base.specs.declared.memory.Stop.{Stop}

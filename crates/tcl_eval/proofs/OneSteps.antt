@@ -1,5 +1,5 @@
--- Steps of a run, over a host that gives one answer to each call, have one outcome: parts, words, expressions, and the rules
--- that only look. What a text's items and its tree are is one each; those facts are of the grammars.
+-- Steps of a run, over a host that gives one answer to each call, have one outcome: parts, words, expressions, and the
+-- rules that only look. What a text's items and its tree are is one each; those facts are of the grammars.
 use Rattle.std.proofs.Common.{◌≡◌, ◌<◌, ◌≤◌, inl, inr, ℕ, suc, Bool, true, false, List, [], ◌∷◌, ◌++◌, map, Option, Some, None, Result, Ok, Err, sym, ◌∙◌, ap, subst, arith}
 use Rattle.source_types.specs.declared.commands.Part.{Part}
 use Rattle.source_types.specs.declared.commands.Part.TheVariants as part

@@ -1,5 +1,5 @@
--- What the words of an `if` say behind those that were read. This project's own: the reader keeps the branches so far, and
--- what comes next; behind the last body nothing does.
+-- What the words of an `if` say behind those that were read. This project's own: the reader keeps the branches so far,
+-- and what comes next; behind the last body nothing does.
 use Rattle.std.specs.Prelude.{◌≡◌, ◌++◌, ℕ, List, ◌∷◌, Option, Some, None}
 use Rattle.std.specs.Option.{option_map}
 use Rattle.source_types.specs.declared.built_ins.Branch.{Branch}

@@ -1,6 +1,6 @@
--- What the laws of this crate say. A text has one form as an expression: one tree, one parsed form, or none; this is a fact
--- of the project's own rule of reading it, and so `BadExpr` is answered exactly where the form of expressions has nothing
--- else. A script that is run over a host with one answer to each call has one outcome.
+-- What the laws of this crate say. A text has one form as an expression: one tree, one parsed form, or none; this is a
+-- fact of the project's own rule of reading it, and so `BadExpr` is answered exactly where the form of expressions has
+-- nothing else. A script that is run over a host with one answer to each call has one outcome.
 use Rattle.std.specs.Prelude.{◌≡◌, ℕ, List, Result}
 use Rattle.sdc_base.specs.declared.memory.At.{At}
 use Rattle.source_types.specs.declared.expressions.Expression.{Expression}

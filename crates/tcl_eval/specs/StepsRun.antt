@@ -1,7 +1,7 @@
 -- What the steps of a parsed expression give, one after the other, over the values so far, the last one first. This
 -- project's own; that it is what the expression's tree gives is a law. Where the left side of `&&` or `||` decides,
--- the steps to the operator's own are passed over: `passed` counts the operators that are still to come. Steps that are no
--- expression's are BadExpr.
+-- the steps to the operator's own are passed over: `passed` counts the operators that are still to come. Steps that are
+-- no expression's are BadExpr.
 use Rattle.std.specs.Prelude.{◌≡◌, ◌+◌, ℕ, zero, suc, Bool, true, false, if◌then◌else◌, List, [], ◌∷◌, Option, Some, None, Result, Ok, Err}
 use Rattle.source_types.specs.declared.commands.Word.{Word}
 use Rattle.source_types.specs.declared.expressions.BinaryOperator.{BinaryOperator}

@@ -50,8 +50,8 @@ fn is_else(word: &str) -> bool
     word == "else"
 }
 
-/// What comes next behind a word, which may end a branch; `None` where the word cannot stand there. The one error is want
-/// of memory.
+/// What comes next behind a word, which may end a branch; `None` where the word cannot stand there. The one error is
+/// want of memory.
 #[tactic(auto, using(crate::proofs::BranchFacts::condition_read, crate::proofs::BranchFacts::then_read, crate::proofs::BranchFacts::body_behind_condition, crate::proofs::BranchFacts::body_read, crate::proofs::BranchFacts::last_read, crate::proofs::BranchFacts::nothing_behind))]
 fn step(
     alloc: Global,
@@ -102,7 +102,8 @@ fn behind(word: &str, copy: Text) -> Expects
     Expects::Nothing(copy)
 }
 
-/// The branches that the words behind `if` say; `None` where they are too few or too many. The one error is want of memory.
+/// The branches that the words behind `if` say; `None` where they are too few or too many. The one error is want of
+/// memory.
 pub fn branches_of(alloc: Global, words: &[Text]) -> Result<Option<Branches>, NoMemory>
     ensures { IfOk result (λ said. said ≡ spec.branches_of words.now) }
 {

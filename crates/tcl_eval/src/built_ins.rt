@@ -57,7 +57,8 @@ pub fn set<H: Commands>(
     }
 }
 
-/// `list a..`: one or more lists of objects alone are joined; else the list of the texts. The one error is want of memory.
+/// `list a..`: one or more lists of objects alone are joined; else the list of the texts. The one error is want of
+/// memory.
 pub fn list<H: Commands>(alloc: Global, host: &H, arguments: &[Value]) -> Result<Value, Stop<Kind>>
     ensures { Gives result (Ok (spec.list_made (text_in H.host (H.state host.now)) arguments.now)) }
 {
@@ -93,7 +94,8 @@ fn is_unwhole(text: &[u8]) -> bool
     text.iter().any(|byte| matches!(*byte, b'.' | b'e' | b'E'))
 }
 
-/// The whole number that is an index. Refused as `BadExpr` where the text is none, as `Number` where it is out of range.
+/// The whole number that is an index. Refused as `BadExpr` where the text is none, as `Number` where it is out of
+/// range.
 fn index_of(text: &Text) -> Result<Fixed, TclKind>
     ensures { result ≡ spec.index_of text.now }
 {

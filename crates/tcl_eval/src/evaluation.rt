@@ -61,9 +61,9 @@ fn run_outside<H: Commands>(
 /// order, with the line of the outermost command and the values of their words, and is left as the run leaves it.
 ///
 /// Refused with the first fault in order of execution and the line of the outermost command: the faults of reading
-/// commands; `UnknownVariable`, `BadExpr`, `WrongArgs` and `Number`; `TooDeep` exactly above 100 levels of brackets, bodies
-/// and parentheses together; `TooManyCommands` exactly at command 30,000,001; and what the host refuses. After a refusal
-/// the host stands as the commands before it left it; after want of memory nothing is said of it.
+/// commands; `UnknownVariable`, `BadExpr`, `WrongArgs` and `Number`; `TooDeep` exactly above 100 levels of brackets,
+/// bodies and parentheses together; `TooManyCommands` exactly at command 30,000,001; and what the host refuses. After a
+/// refusal the host stands as the commands before it left it; after want of memory nothing is said of it.
 pub fn eval<H: Commands>(alloc: Global, script: &str, host: &mut H) -> Result<(), Stop<At<Kind>>>
     ensures { Meets result (λ given. Runs H.host script.now (H.state host.old) given (H.state host.new)) }
 {

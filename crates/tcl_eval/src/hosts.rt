@@ -9,8 +9,8 @@ use sdc_model::{Kind, Object, Value};
 
 /// A host of a script: it answers each command that is not built in, and keeps its allocator.
 ///
-/// `host` is what a host means: what it may answer to a call in a state, with the state that it is then left in, and the
-/// names of objects. `state` is what of a host counts there. Code over any host is proved once, by these members.
+/// `host` is what a host means: what it may answer to a call in a state, with the state that it is then left in, and
+/// the names of objects. `state` is what of a host counts there. Code over any host is proved once, by these members.
 pub trait Commands {
     /// What of a host its answers hang on, and what calls change.
     ghost State: { Type 0 };
@@ -22,7 +22,8 @@ pub trait Commands {
     ghost host: { Host State };
 
     /// Answers a command, by the line of the outermost command, its name and the values of the words behind the name.
-    /// Where it refuses for another cause than memory, the host is as it was; after want of memory nothing is said of it.
+    /// Where it refuses for another cause than memory, the host is as it was; after want of memory nothing is said of
+    /// it.
     fn call(&mut self, line: u32, name: &Text, words: &List<Value>) -> Result<Value, Stop<Kind>>
         ensures { Meets result (λ given. Answered (host.Answers line name.now words.now) (state self.old) given (state self.new)) };
 

@@ -1,5 +1,5 @@
-//! That a text has one form as an expression, and a script one outcome, so that what the parser and a run answer is the only
-//! right answer.
+//! That a text has one form as an expression, and a script one outcome, so that what the parser and a run answer is the
+//! only right answer.
 
 ghost use Rattle.std.specs.Prelude.{List, ℕ};
 ghost use Rattle.tcl_eval.specs.Laws.{HasOneParse, HasOneRun, HasOneTree, HostIsOne};

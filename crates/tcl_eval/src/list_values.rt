@@ -115,8 +115,8 @@ fn add_objects(all: &mut List<Object>, objects: &[Object]) -> Result<(), NoMemor
     Ok(())
 }
 
-/// The objects of values that are lists of objects alone, one at least; `None` where they are not. The one error is want
-/// of memory.
+/// The objects of values that are lists of objects alone, one at least; `None` where they are not. The one error is
+/// want of memory.
 #[tactic(auto, using(crate::proofs::ListRuns::joined_all, crate::proofs::ListRuns::joined_none, crate::proofs::ListRuns::objects_joined, crate::proofs::ListRuns::text_between, crate::proofs::ListRuns::all_joined))]
 pub fn joined_objects(alloc: Global, values: &[Value]) -> Result<Option<List<Object>>, NoMemory>
     ensures { IfOk result (λ objects. objects ≡ spec.joined_objects values.now) }

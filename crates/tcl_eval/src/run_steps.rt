@@ -63,8 +63,8 @@ pub fn as_value(alloc: Global, scalar: &Scalar) -> Result<Value, Stop<Kind>>
     Ok(Value::Text(text))
 }
 
-/// Whether a condition holds, by the value of its expression. Refused as `BadExpr` where it is no number, as `Number` where
-/// it is out of range.
+/// Whether a condition holds, by the value of its expression. Refused as `BadExpr` where it is no number, as `Number`
+/// where it is out of range.
 pub fn truth(scalar: &Scalar) -> Result<bool, Stop<Kind>>
     ensures { Gives result (tcl_outcome (scalars.truth_of scalar.now)) }
 {

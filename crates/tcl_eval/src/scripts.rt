@@ -1,5 +1,5 @@
-//! The run of a script: its commands one after the other, with their words, brackets, bodies and expressions. What runs a
-//! body and what runs a command lead back to each other; the levels that are left bound this.
+//! The run of a script: its commands one after the other, with their words, brackets, bodies and expressions. What runs
+//! a body and what runs a command lead back to each other; the levels that are left bound this.
 
 ghost use Rattle.sdc_model.specs.Branches.{branches_of};
 ghost use Rattle.sdc_model.specs.HostCalls.{text_in};
@@ -30,8 +30,8 @@ use sdc_model::{
 };
 use std::alloc::Global;
 
-/// Runs a body at the next level: the value of its last command, or the empty text. Refused as `TooDeep` where no level is
-/// left.
+/// Runs a body at the next level: the value of its last command, or the empty text. Refused as `TooDeep` where no level
+/// is left.
 #[cycle(run)]
 fn run_body<H: Commands>(
     alloc: Global,
@@ -54,8 +54,8 @@ fn run_body<H: Commands>(
     Ok(last)
 }
 
-/// Runs a command: it is counted, then its words are run, and then it is. Refused as `TooManyCommands` where as many as are
-/// taken were begun, and as its words and its rule refuse.
+/// Runs a command: it is counted, then its words are run, and then it is. Refused as `TooManyCommands` where as many as
+/// are taken were begun, and as its words and its rule refuse.
 #[cycle(run)]
 pub fn run_command<H: Commands>(
     alloc: Global,
@@ -79,8 +79,8 @@ pub fn run_command<H: Commands>(
     run_named(alloc, level, host, run, &name, &arguments)
 }
 
-/// Runs a word inside so many parentheses: a word that is one part has the value of that one, any other is the text of its
-/// parts.
+/// Runs a word inside so many parentheses: a word that is one part has the value of that one, any other is the text of
+/// its parts.
 #[cycle(run)]
 fn run_word<H: Commands>(
     alloc: Global,
@@ -256,8 +256,8 @@ fn evaluate<H: Commands>(
     tcl_answer(last_value(values))
 }
 
-/// Runs a step of an expression over the values so far, or passes over it; says of how many operators the steps are still
-/// passed over.
+/// Runs a step of an expression over the values so far, or passes over it; says of how many operators the steps are
+/// still passed over.
 #[cycle(run)]
 fn run_step<H: Commands>(
     alloc: Global,

@@ -1,6 +1,6 @@
--- That the grammar of lists relates one outcome to a text, which the reading of the text gives. This project's own rule.
--- So a text always has items or a first fault and never both, and a fault is answered exactly where the grammar has
--- nothing else.
+-- That the grammar of lists relates one outcome to a text, which the reading of the text gives. This project's own
+-- rule. So a text always has items or a first fault and never both, and a fault is answered exactly where the grammar
+-- has nothing else.
 use Rattle.std.specs.Prelude.{◌≡◌, ◌↔◌, ℕ, List, Result}
 use Rattle.source_types.specs.declared.kinds.TclKind.{TclKind}
 use Rattle.sdc_model.specs.ListItems.{Lists}

@@ -1,9 +1,8 @@
 -- The modules of tokens, keyword by keyword.
-use Rattle.std.proofs.Common.{◌≡◌, ◌∙◌, ◌+◌, ◌++◌, ◌∷◌, ℕ, Bool, true, false, cond, List, [], drop, take, not, suc, refl, sym, ap, subst, arith}
+use Rattle.std.proofs.Common.{◌≡◌, ◌∙◌, ◌+◌, ◌++◌, ◌∷◌, ℕ, Bool, true, false, List, [], drop, take, not, suc, refl, sym, ap, subst, arith}
 use Rattle.std.specs.Prelude.{if◌then◌else◌}
 use Rattle.std.proofs.lemmas.List.Elements.{All-from_recursion}
 use Rattle.std.specs.List.{All, AllByRecursion, before_first, flat_map, onto_first, prefix_len, slice_split}
-use Rattle.sdc_base.proofs.CaseFacts.{by_bool}
 use Rattle.source_types.specs.declared.verilog_tokens.VerilogToken.TheVariants as kind
 use Rattle.sdc_model.specs.VerilogStatements as grammar
 use Rattle.sdc_model.specs.VerilogSyntax as syntax

@@ -12,10 +12,9 @@ use Rattle.std.specs.Option.{option_map}
 use Rattle.std.specs.Str.{bytes_eq}
 use Rattle.std.specs.String.{string_bytes, string_eq}
 use Rattle.sdc_model.specs.Verilog as spec
-use Rattle.sdc_model.specs.VerilogKinds.{is_among}
 use Rattle.sdc_model.specs.VerilogNets.{is_of}
 use Rattle.sdc_model.specs.VerilogSyntax as syntax
-use Rattle.sdc_model.specs.Words.{same_text}
+use Rattle.sdc_model.specs.Words.{is_among, same_text}
 use Rattle.source_types.specs.declared.library_cells.Direction.TheVariants.{Input}
 use Rattle.verilog_net.proofs.KindFacts.{no_token}
 use Rattle.verilog_net.specs.declared.declarations.Declared.{Declared}

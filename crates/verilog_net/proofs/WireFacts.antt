@@ -1,5 +1,5 @@
 -- Ports and nets, name by name.
-use Rattle.std.proofs.Common.{◌≡◌, ◌∙◌, ◌≤◌, ◌++◌, ◌∷◌, ℕ, Bool, true, false, List, [], Option, None, Some, String, append_assoc, drop, length, refl, sym, ap}
+use Rattle.std.proofs.Common.{◌≡◌, ◌∙◌, ◌≤◌, ◌++◌, ◌∷◌, ℕ, false, List, [], Option, None, Some, String, append_assoc, drop, length, refl, sym, ap}
 use Rattle.std.specs.Prelude.{◌||◌, if◌then◌else◌}
 use Rattle.std.proofs.Math.Bool.{or-false}
 use Rattle.std.proofs.lemmas.List.{append-nil, drop_all}
@@ -8,10 +8,9 @@ use Rattle.std.specs.List.{cons_option, filter_map}
 use Rattle.std.specs.Option.{option_to_list}
 use Rattle.sdc_base.proofs.CaseFacts.{by_bool, or_turned}
 use Rattle.source_types.specs.declared.netlists.Wire.{Wire}
-use Rattle.sdc_model.specs.VerilogKinds.{is_among}
 use Rattle.sdc_model.specs.VerilogNets as spec
 use Rattle.sdc_model.specs.VerilogSyntax as syntax
-use Rattle.sdc_model.specs.Words.{same_text}
+use Rattle.sdc_model.specs.Words.{is_among, same_text}
 use Rattle.verilog_net.specs.declared.nets.Candidate.{Candidate}
 use Rattle.verilog_net.specs.declared.tokens.Token.{Token}
 use Rattle.verilog_net.specs.Contexts.{HasNames}

@@ -2,6 +2,7 @@
 use Rattle.std.specs.Prelude.{◌≡◌, ℕ, List, String}
 use Rattle.indexmap.specs.IndexSet.{IndexSet, contains_text}
 use Rattle.sdc_model.specs.VerilogKinds as grammar
+use Rattle.sdc_model.specs.Words.{is_among}
 use Rattle.verilog_net.specs.declared.contexts.Part.{Part}
 use Rattle.verilog_net.specs.declared.contexts.Part.TheVariants.{Naming, Header, Statement, Declaring}
 
@@ -13,4 +14,4 @@ part_seen Declaring = grammar.declaring
 
 -- the set has these names
 abbrev pub HasNames : {A S : Type 0} → IndexSet (String A) S → List (List ℕ) → Type 0
-HasNames names listed = (name : List ℕ) → contains_text names name ≡ grammar.is_among listed name
+HasNames names listed = (name : List ℕ) → contains_text names name ≡ is_among listed name

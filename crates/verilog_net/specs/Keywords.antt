@@ -1,5 +1,5 @@
--- The keywords of Verilog that the grammar here has not (IEEE 1364-2005, annex on keywords), in lists of their own by their
--- first letters. This project's own words, so that each is looked for in a short list.
+-- The keywords of Verilog that the grammar here has not (IEEE 1364-2005, annex on keywords), in lists of their own by
+-- their first letters. This project's own words, so that each is looked for in a short list.
 use Rattle.std.specs.Prelude.{ℕ, List, [], ◌∷◌, codes}
 
 -- those that begin with `a` to `c`

@@ -1,5 +1,5 @@
--- The reader's tokens and places as the grammar of netlists has them. This project's own. Each function says for a value
--- of the code what it is in the definitions.
+-- The reader's tokens and places as the grammar of netlists has them. This project's own. Each function says for a
+-- value of the code what it is in the definitions.
 use Rattle.std.specs.Prelude.{◌≡◌, ◌<◌, ◌≤◌, ◌&&◌, ℕ, Bool, List, Option, Some, None, drop, length, map, nat_lt, slice_index}
 use Rattle.sdc_model.specs.Row.{Front, found, stops}
 use Rattle.sdc_model.specs.VerilogConstants.{is_base_letter}

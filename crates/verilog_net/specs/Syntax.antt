@@ -1,5 +1,5 @@
--- What the reader's tokens declare and connect, as the definitions have it. This project's own. Each function says for a
--- value of the code what it is there.
+-- What the reader's tokens declare and connect, as the definitions have it. This project's own. Each function says for
+-- a value of the code what it is there.
 use Rattle.std.specs.Prelude.{ℕ, Bool, not, List, [], ◌∷◌, Option, Some, None, map}
 use Rattle.std.specs.List.{prefix_len}
 use denote.Ref.{Bor}

@@ -2,9 +2,9 @@
 use Rattle.std.specs.Prelude.{◌≡◌, ◌++◌, ◌∷◌, [], ℕ, List, String, map, if◌then◌else◌}
 use Rattle.indexmap.specs.IndexSet.{IndexSet}
 use Rattle.source_types.specs.declared.netlists.Wire.{Wire}
-use Rattle.sdc_model.specs.VerilogKinds.{is_among}
 use Rattle.sdc_model.specs.VerilogNets.{new_wires}
 use Rattle.sdc_model.specs.VerilogTokens.{Token}
+use Rattle.sdc_model.specs.Words.{is_among}
 use Rattle.verilog_net.specs.declared.nets.Candidate.{Candidate}
 use Rattle.verilog_net.specs.Contexts.{HasNames}
 

@@ -77,8 +77,8 @@ fn is_bound(token: &Token<'_>) -> bool
 
 /// The number that a token spells.
 ///
-/// The grammar has none above 999,999 where this is asked for, so that 32 bits hold it; one that passed them would count
-/// as want of memory.
+/// The grammar has none above 999,999 where this is asked for, so that 32 bits hold it; one that passed them would
+/// count as want of memory.
 pub fn number(token: &Token<'_>) -> Result<u32, NoMemory>
     ensures { IfOk result (λ number. number ≡ digits.number_of token.now.text.now) }
 {

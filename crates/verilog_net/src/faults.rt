@@ -1,5 +1,5 @@
-//! The faults of modules that are of the grammar: at which tokens they stand, and the first of them (IEEE 1364-2005). The
-//! order of the faults is this project's own.
+//! The faults of modules that are of the grammar: at which tokens they stand, and the first of them (IEEE 1364-2005).
+//! The order of the faults is this project's own.
 //!
 //! Each function here that may fail has want of memory as its one error.
 

@@ -1,7 +1,7 @@
 //! Sets of names.
 
 ghost use Rattle.std.specs.Prelude.{◌≡◌, ◌∷◌, [], List, ℕ, OnOk};
-ghost use Rattle.sdc_model.specs.VerilogKinds as grammar;
+ghost use Rattle.sdc_model.specs.Words.{is_among};
 ghost use Rattle.verilog_net.specs.Contexts.{HasNames};
 
 use indexmap::IndexSet;
@@ -20,7 +20,7 @@ pub fn no_names(alloc: Global) -> NameSet
 
 /// Whether a name is in a set.
 pub fn has_name(names: &NameSet, name: &str) -> bool
-    ensures { (listed : List (List ℕ)) → HasNames names.now listed → result ≡ grammar.is_among listed name.now }
+    ensures { (listed : List (List ℕ)) → HasNames names.now listed → result ≡ is_among listed name.now }
 {
     names.contains(name)
 }

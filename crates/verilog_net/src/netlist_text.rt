@@ -12,9 +12,9 @@ use text_lines::no_text_line;
 /// The tokens of a file's bytes, where they are a netlist of the grammar (IEEE 1364-2005, in the part that is read
 /// here).
 ///
-/// Refused as `NotText` with the line of the first byte that is no UTF-8, and as `VerilogForm` with the line of the first
-/// token that no netlist has behind those before it, or of the last byte where the text ends too early. These stand
-/// before all other faults of a netlist.
+/// Refused as `NotText` with the line of the first byte that is no UTF-8, and as `VerilogForm` with the line of the
+/// first token that no netlist has behind those before it, or of the last byte where the text ends too early. These
+/// stand before all other faults of a netlist.
 #[tactic(auto, using(crate::proofs::BreakFacts::no_text))]
 pub fn netlist_tokens(alloc: Global, bytes: &[u8]) -> Result<Vec<Token<'_>>, Stop<At<VerilogKind>>>
     ensures { Recognises result bytes.now }

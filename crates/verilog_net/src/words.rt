@@ -31,7 +31,8 @@ fn is_a_to_c(word: &str) -> bool
     )
 }
 
-/// Whether a word is a keyword that the grammar here has not, of those that begin with `d` or `e`, but for `en` and `ev`.
+/// Whether a word is a keyword that the grammar here has not, of those that begin with `d` or `e`, but for `en` and
+/// `ev`.
 #[tactic(auto, unfolding(crate::specs::Keywords::d_to_e))]
 fn is_d_to_e(word: &str) -> bool
     ensures { result ≡ list_any (same_text word.now) keywords.d_to_e }
