@@ -13,7 +13,7 @@ use Rattle.sdc_cli.proofs.AnswerEnds.{ends_with}
 -- ---- what a run leaves
 
 -- its output changes no faults
-faults_stay : (made : Option (List ℕ)) (IsOutput : Output → Type 0) (answer : Status) (before after : Written)
+pub faults_stay : (made : Option (List ℕ)) (IsOutput : Output → Type 0) (answer : Status) (before after : Written)
     → LeavesWritten made IsOutput answer before after → after.faults ≡ before.faults
 faults_stay None IsOutput status.Done before after leaves = ap (λ (w : Written). w.faults) leaves.2
 faults_stay (Some name) IsOutput status.Done before after leaves = ap (λ (w : Written). w.faults) leaves.2

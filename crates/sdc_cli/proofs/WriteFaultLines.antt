@@ -1,14 +1,18 @@
--- That the line of a write fault stands whole, or a write failed once more, by how the line was written.
-use Rattle.std.proofs.Common.{◌≡◌, Option, Some, None, Ok, Err, ap, inl, inr}
+-- That the line of a write fault stands whole, or a write failed once more: by how the line was written, and of the
+-- run that ends with it.
+use Rattle.std.proofs.Common.{◌≡◌, ◌≤◌, ◌∙◌, ◌++◌, ℕ, List, Option, Some, None, Ok, Err, refl, ap, subst, inl, inr, arith}
 use Rattle.sdc_base.specs.Channels.{Written, WritesAll, appended}
+use Rattle.sdc_base.specs.Counting.{Rose}
 use Rattle.sdc_base.specs.declared.outside.Channel.TheVariants.{Faults}
 use Rattle.sdc_base.specs.declared.outside.Refusal.{Refusal}
 use Rattle.source_types.specs.declared.answers.Status.{Status}
 use Rattle.source_types.specs.declared.answers.Status.TheVariants as status
 use Rattle.source_types.specs.declared.command_lines.CommandLine.{CommandLine}
-use Rattle.sdc_model.specs.Answers.{OnTold}
+use Rattle.source_types.specs.declared.command_lines.Output.{Output}
+use Rattle.sdc_model.specs.Answers.{LeavesWritten, OnTold, WriteFaultFits}
 use Rattle.sdc_model.specs.FaultLine.{fault_line}
-use Rattle.sdc_cli.specs.Announced.{NamesWriteFault}
+use Rattle.sdc_cli.specs.Announced.{EndsAs, NamesWriteFault, RoseTwice}
+use Rattle.sdc_cli.proofs.RunLeaves.{faults_stay}
 
 -- a whole line
 named_whole : (line : Option CommandLine) (answer : Status) (Failed : Type 0) (before after : Written) → after ≡ appended Faults (fault_line line answer) before
@@ -45,3 +49,75 @@ named_without_memory line answer Failed refusal (Some before) (Some after) write
 pub nothing_named : (Failed : Type 0) (told : Option Written) → OnTold (NamesWriteFault Failed status.Done) told told
 nothing_named Failed None = tt
 nothing_named Failed (Some told) = tt
+
+-- ---- a run that ends with it
+
+-- a count that rose in both parts of a call rose twice
+rose_twice : (before now after : ℕ) → before ≤ now → Rose before now → Rose now after → RoseTwice before after
+rose_twice before now after first (inl more) (inl once) = inl (omega (arith, more, once))
+rose_twice before now after first (inl more) (inr last) = inr (omega (arith, last))
+rose_twice before now after first (inr last) (inl once) = inr (omega (arith, last, once))
+rose_twice before now after first (inr last) (inr still) = inr (omega (arith, still))
+
+-- a run ends with a write fault only where that was the answer
+was_write_fault : (answer : Status) → EndsAs answer status.WriteFault → answer ≡ status.WriteFault
+was_write_fault status.Done e = cc
+was_write_fault status.Usage (inl e) = cc
+was_write_fault status.Usage (inr e) = cc
+was_write_fault (status.Source fault) (inl e) = cc
+was_write_fault (status.Source fault) (inr e) = cc
+was_write_fault (status.ReadFault place) (inl e) = cc
+was_write_fault (status.ReadFault place) (inr e) = cc
+was_write_fault status.WriteFault e = refl
+was_write_fault status.NoMemory (inl e) = cc
+was_write_fault status.NoMemory (inr e) = cc
+was_write_fault (status.TooLarge bytes) (inl e) = cc
+was_write_fault (status.TooLarge bytes) (inr e) = cc
+
+-- the line behind faults that the output left as they were, of a count that rose before it
+named_behind : (answer ended : Status) (first now last : ℕ) (before between after : Written) → first ≤ now → EndsAs answer ended
+    → WriteFaultFits first now answer → between.faults ≡ before.faults → NamesWriteFault (Rose now last) ended between after
+    → NamesWriteFault (RoseTwice first last) ended before after
+named_behind answer status.WriteFault first now last before between after counts e fits same (inl whole) =
+    inl (whole ∙ ap (λ (faults : List ℕ). faults ++ fault_line None status.WriteFault) same)
+named_behind answer status.WriteFault first now last before between after counts e fits same (inr again) =
+    inr (rose_twice first now last counts (subst (λ (a : Status). WriteFaultFits first now a) (was_write_fault answer e) fits) again)
+named_behind answer status.Done first now last before between after counts e fits same names = tt
+named_behind answer status.Usage first now last before between after counts e fits same names = tt
+named_behind answer (status.Source fault) first now last before between after counts e fits same names = tt
+named_behind answer (status.ReadFault place) first now last before between after counts e fits same names = tt
+named_behind answer status.NoMemory first now last before between after counts e fits same names = tt
+named_behind answer (status.TooLarge bytes) first now last before between after counts e fits same names = tt
+
+pub named_by_run : (made : Option (List ℕ)) (IsOutput : Output → Type 0) (answer ended : Status) (first now last : ℕ) (before between after : Option Written)
+    → first ≤ now → EndsAs answer ended → WriteFaultFits first now answer → OnTold (LeavesWritten made IsOutput answer) before between
+    → OnTold (NamesWriteFault (Rose now last) ended) between after → OnTold (NamesWriteFault (RoseTwice first last) ended) before after
+named_by_run made IsOutput answer ended first now last None None None counts e fits leaves names = tt
+named_by_run made IsOutput answer ended first now last None None (Some after) counts e fits leaves names = names
+named_by_run made IsOutput answer ended first now last None (Some between) after counts e fits leaves names = absurd leaves
+named_by_run made IsOutput answer ended first now last (Some before) None after counts e fits leaves names = absurd leaves
+named_by_run made IsOutput answer ended first now last (Some before) (Some between) None counts e fits leaves names = names
+named_by_run made IsOutput answer ended first now last (Some before) (Some between) (Some after) counts e fits leaves names =
+    named_behind answer ended first now last before between after counts e fits (faults_stay made IsOutput answer before between leaves) names
+
+-- words that are no command line, and want of memory while they were read, end with no write fault
+no_write_fault : (answer ended : Status) (Failed More : Type 0) (before after : Option Written) → (answer ≡ status.WriteFault → ⊥) → EndsAs answer ended
+    → OnTold (NamesWriteFault Failed ended) before after → OnTold (NamesWriteFault More ended) before after
+no_write_fault answer ended Failed More None None other e names = tt
+no_write_fault answer ended Failed More None (Some after) other e names = names
+no_write_fault answer ended Failed More (Some before) None other e names = names
+no_write_fault answer status.WriteFault Failed More (Some before) (Some after) other e names = absurd (other (was_write_fault answer e))
+no_write_fault answer status.Done Failed More (Some before) (Some after) other e names = tt
+no_write_fault answer status.Usage Failed More (Some before) (Some after) other e names = tt
+no_write_fault answer (status.Source fault) Failed More (Some before) (Some after) other e names = tt
+no_write_fault answer (status.ReadFault place) Failed More (Some before) (Some after) other e names = tt
+no_write_fault answer status.NoMemory Failed More (Some before) (Some after) other e names = tt
+no_write_fault answer (status.TooLarge bytes) Failed More (Some before) (Some after) other e names = tt
+
+pub usage_no_write_fault : (ended : Status) (Failed More : Type 0) (before after : Option Written) → EndsAs status.Usage ended
+    → OnTold (NamesWriteFault Failed ended) before after → OnTold (NamesWriteFault More ended) before after
+usage_no_write_fault ended Failed More before after e names = no_write_fault status.Usage ended Failed More before after (λ e. cc) e names
+
+pub memory_no_write_fault : (ended : Status) (Failed More : Type 0) (before after : Option Written) → EndsAs status.NoMemory ended
+    → OnTold (NamesWriteFault Failed ended) before after → OnTold (NamesWriteFault More ended) before after
+memory_no_write_fault ended Failed More before after e names = no_write_fault status.NoMemory ended Failed More before after (λ e. cc) e names

@@ -1,7 +1,8 @@
 -- What writing the line of an answer leaves, and the answer that a run then ends with. This project's own rule.
 -- The line is made whole and then written; a write that fails changes no answer, and want of memory makes it that.
-use Rattle.std.specs.Prelude.{◌≡◌, ◌⊎◌, ◌++◌, ℕ, Option, None}
+use Rattle.std.specs.Prelude.{◌≡◌, ◌⊎◌, ◌++◌, ◌+◌, ◌<◌, ◌≤◌, ℕ, Option, None}
 use Rattle.sdc_base.specs.Channels.{Written}
+use Rattle.sdc_base.specs.Counting.{last_count}
 use Rattle.sdc_base.specs.Files.{Reading}
 use Rattle.source_types.specs.declared.answers.Status.{Status}
 use Rattle.source_types.specs.declared.answers.Status.TheVariants as status
@@ -21,10 +22,14 @@ Announces line answer Failed ended before after =
     (with_faults before.faults after ≡ before)
     × LeavesFaults line (λ stood. stood ≡ answer) Failed ended before.faults after.faults
 
--- where a run ends with a write fault, its line stands whole, unless a write failed once more in this call
+-- where a run ends with a write fault, its line stands whole, unless a write failed as `Failed` says
 abbrev pub NamesWriteFault : Type 0 → Status → Written → Written → Type 0
 NamesWriteFault Failed status.WriteFault before after = (after.faults ≡ before.faults ++ fault_line None status.WriteFault) ⊎ Failed
 NamesWriteFault Failed ended before after = Unit {0}
+
+-- the count rose twice in a call, or it stands at its last value
+abbrev pub RoseTwice : ℕ → ℕ → Type 0
+RoseTwice before after = (before + 1 < after) ⊎ (last_count ≤ after)
 
 -- an answer with its causes in the words, in the files and in the counts of the faults of the inputs and of the outputs
 abbrev pub HasCauses : Option Reading → ℕ → ℕ → ℕ → ℕ → Option CommandLine → Status → Type 0

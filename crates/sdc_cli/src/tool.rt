@@ -4,7 +4,7 @@ ghost use Rattle.std.specs.Prelude.{◌≡◌, ◌≤◌, length, IfErr, Some, E
 ghost use Rattle.sdc_model.specs.CommandLine.{command_line, words_of};
 ghost use Rattle.sdc_model.specs.Answers.{OnTold, OnModes, IsLineFault, UsageFits, CauseFits, TooLargeFits, ReadFaultFits, WriteFaultFits, LeavesReading, LeavesWritten, made_by, made_file, files_of};
 ghost use Rattle.sdc_model.specs.FaultLine.{LeavesFaults, with_faults};
-ghost use Rattle.sdc_cli.specs.Announced.{HasCauses};
+ghost use Rattle.sdc_cli.specs.Announced.{HasCauses, NamesWriteFault, RoseTwice};
 ghost use Rattle.sdc_cli.specs.Steps.{WritesOutput, EndsWriting, WritesBoth};
 ghost use Rattle.sdc_base.specs.Counting.{Rose};
 ghost use Rattle.sdc_cli.specs.Outputs.{IsOutputOf, IsTooLargeOf, ComputesLine, StopsComputing};
@@ -24,7 +24,7 @@ use std::alloc::Global;
 /// first fault of a file, `TooLarge` where the merged text would have more than 268,435,456 bytes, `ReadFault`
 /// and `WriteFault` only where the inputs or outputs counted a fault, `Done` where all was written whole, and
 /// `NoMemory` wherever memory ran out.
-#[tactic(auto, using(crate::proofs::RunLeaves::usage_leaves, crate::proofs::RunLeaves::usage_names, crate::proofs::RunLeaves::memory_leaves, crate::proofs::RunLeaves::memory_names, crate::proofs::AnswerEnds::usage_ends, crate::proofs::AnswerEnds::cause_ends, crate::proofs::AnswerEnds::too_large_ends, crate::proofs::AnswerEnds::read_fault_ends, crate::proofs::AnswerEnds::write_fault_ends, crate::proofs::AnswerEnds::reads_ends))]
+#[tactic(auto, using(crate::proofs::RunLeaves::usage_leaves, crate::proofs::RunLeaves::usage_names, crate::proofs::RunLeaves::memory_leaves, crate::proofs::RunLeaves::memory_names, crate::proofs::AnswerEnds::usage_ends, crate::proofs::AnswerEnds::cause_ends, crate::proofs::AnswerEnds::too_large_ends, crate::proofs::AnswerEnds::read_fault_ends, crate::proofs::AnswerEnds::write_fault_ends, crate::proofs::AnswerEnds::reads_ends, crate::proofs::WriteFaultLines::usage_no_write_fault, crate::proofs::WriteFaultLines::memory_no_write_fault))]
 pub fn run<I: Inputs, O: Outputs>(
     alloc: Global,
     words: &[String],
@@ -57,12 +57,16 @@ pub fn run<I: Inputs, O: Outputs>(
         before (with_faults before.faults after))
         (O.told outputs.old) (O.told outputs.new) }
 
-    // That line, whole, or a front of it where a write failed; after want of memory a front of one.
+    // The line that names what stopped it, whole, or a front of it where a write failed; after want of memory a
+    // front of one. That of a write fault is whole too, unless a second write failed.
     ensures names { let line = command_line (words_of words.now) in
         OnTold (λ before after. LeavesFaults line
         (HasCauses (I.told inputs.old) (I.faults inputs.old) (I.faults inputs.new)
         (O.faults outputs.old) (O.faults outputs.new) line)
         (Rose (O.faults outputs.old) (O.faults outputs.new)) result before.faults after.faults)
+        (O.told outputs.old) (O.told outputs.new) }
+    ensures write_fault_line { OnTold (NamesWriteFault
+        (RoseTwice (O.faults outputs.old) (O.faults outputs.new)) result)
         (O.told outputs.old) (O.told outputs.new) }
 {
     match command_line(alloc, words) {
@@ -99,6 +103,9 @@ fn run_line<I: Inputs, O: Outputs>(
         (HasCauses (I.told inputs.old) (I.faults inputs.old) (I.faults inputs.new)
         (O.faults outputs.old) (O.faults outputs.new) (Some line.now))
         (Rose (O.faults outputs.old) (O.faults outputs.new)) result before.faults after.faults)
+        (O.told outputs.old) (O.told outputs.new) }
+    ensures write_fault_line { OnTold (NamesWriteFault
+        (RoseTwice (O.faults outputs.old) (O.faults outputs.new)) result)
         (O.told outputs.old) (O.told outputs.new) }
 {
     let status = write_line_output(alloc, line, inputs, outputs);

@@ -3,6 +3,7 @@ use Rattle.source_types.specs.declared.answers.Status.{Status}
 use Rattle.sdc_cli.specs.Announced.{HasCauses}
 use Rattle.sdc_cli.proofs.AnswerEnds.{read_fault_ends, reads_ends, rose_second, too_large_ends, usage_ends, write_fault_later}
 use Rattle.sdc_cli.proofs.RunLeaves.{leaves_faults, leaves_written}
+use Rattle.sdc_cli.proofs.WriteFaultLines.{named_by_run}
 use Rattle.sdc_cli.proofs.tool.run_line.Goals as goal
 
 pub returns-clause-usage : goal.returns-clause-usage
@@ -41,3 +42,9 @@ returns-clause-names g c =
       write_fault_later _ _ _ answer ran.counts c.announce.ensures.counts ran.write_fault,
     ) in
     leaves_faults _ _ (Some c.args.line.now) Causes _ _ _ _ _ _ _ stood (rose_second _ _ _ ran.counts) ran.writes c.announce.ensures.announces
+
+pub returns-clause-write_fault_line : goal.returns-clause-write_fault_line
+returns-clause-write_fault_line g c =
+    let ran = c.write_line_output-status.ensures in
+    let announced = c.announce.ensures in
+    named_by_run _ _ _ _ _ _ _ _ _ _ ran.counts announced.ends ran.write_fault ran.writes announced.names
