@@ -1,9 +1,9 @@
--- Bytes that are added to a sink one behind the other, and none.
-use Rattle.std.proofs.Common.{◌≡◌, ℕ, List, [], ◌++◌, ap, ◌∙◌, arith, append_assoc, length-append, add-zero, sym}
+-- Bytes that are added to a sink one behind the other, and none; counts past 64 bits.
+use Rattle.std.proofs.Common.{◌≡◌, ℕ, List, [], ◌++◌, Result, Ok, Err, OnErr, ap, ◌∙◌, arith, append_assoc, length-append, add-zero, subst, sym}
 use Rattle.std.proofs.lemmas.List.{append-nil}
 use Rattle.sdc_print.specs.declared.sinks.Sink.{Sink}
 use Rattle.sdc_print.specs.declared.sinks.Sink.TheVariants.{Bytes, Count}
-use Rattle.sdc_print.specs.Added.{added}
+use Rattle.sdc_print.specs.Added.{added, Overflows}
 
 pub added_added : (s : Sink) (a b : List ℕ) → added (added s a) b ≡ added s (a ++ b)
 unfolding added
@@ -39,3 +39,25 @@ unfolding added
 kept_bytes out start bytes text s e f =
     let g : bytes ≡ start ++ text = cc in
     g ∙ ap (λ l. l ++ text) s
+
+-- ---- counts past 64 bits
+
+-- what passes them does so with more bytes
+pub longer : (s : Sink) (more : List ℕ) → Overflows s → Overflows (added s more)
+unfolding added Overflows
+longer (Bytes bytes) more h = tt
+longer (Count count) more h = omega arith
+
+-- what holds in any case, or of a sink that is the same, is so where a call errs
+pub refused : {T E : Type 0} {P : Type 0} (r : Result T E) → P → OnErr r P
+refused (Ok x) p = tt
+refused (Err e) p = p
+
+pub stops : {T E : Type 0} (r : Result T E) {s t : Sink} → s ≡ t → Overflows s → OnErr r (Overflows t)
+stops (Ok x) e o = tt
+stops (Err x) e o = subst Overflows e o
+
+-- where a piece of a loop that adds piece by piece passes them, all that it adds does
+pub within : (start before : Sink) (all left piece rest : List ℕ) → added start all ≡ added before left → left ≡ piece ++ rest → Overflows (added before piece) → Overflows (added start all)
+within start before all left piece rest i p o =
+    subst Overflows (added_added before piece rest ∙ ap (added before) (sym p) ∙ sym i) (longer (added before piece) rest o)

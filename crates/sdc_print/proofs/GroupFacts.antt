@@ -1,5 +1,5 @@
 -- The names of the second clocks of pairs, and the lines of groups, one by one.
-use Rattle.std.proofs.Common.{◌≡◌, ◌<◌, ◌≤◌, ℕ, List, [], ◌∷◌, ◌++◌, zero, suc, length, drop, take, get_or, refl, sym, ap, ◌∙◌, slice_get, arith, min}
+use Rattle.std.proofs.Common.{◌≡◌, ◌+◌, ◌<◌, ◌≤◌, ℕ, List, [], ◌∷◌, ◌++◌, zero, suc, length, drop, take, get_or, refl, sym, ap, ◌∙◌, slice_get, arith, length-append, min}
 use Rattle.std.proofs.lemmas.List.{append-nil}
 use Rattle.std.proofs.Math.Seq.{drop-cons}
 use Rattle.timing_types.specs.declared.clocks.Clock.{Clock}
@@ -23,7 +23,7 @@ pub gap_none : (k : ℕ) → k ≤ 0 → [] ≡ gap_text k
 gap_none zero h = refl
 gap_none (suc k) h = absurd (omega arith)
 
-pub gap_length : (k : ℕ) → length (gap_text k) ≡ min k 1
+gap_length : (k : ℕ) → length (gap_text k) ≡ min k 1
 gap_length zero = refl
 gap_length (suc k) = omega arith
 
@@ -44,6 +44,15 @@ pub tail_step : (clocks : List Clock) (pairs : List Pair) (i : ℕ) (d : Pair) �
 tail_step clocks pairs i d h =
     ap (λ ps. tail_text i (names_at clocks (seconds ps))) (drop-cons pairs i d h)
     ∙ ap (λ l. gap_text i ++ l) (spaced_more i (name_of (slice_get clocks (get_or pairs i d).second)) (names_at clocks (seconds (drop (suc i) pairs))))
+
+pub tail_length : (clocks : List Clock) (pairs : List Pair) (i : ℕ) (d : Pair) → i < length pairs → length (tail_text i (names_at clocks (seconds (drop i pairs)))) ≡ min i 1 + (length (name_of (slice_get clocks (get_or pairs i d).second)) + length (tail_text (suc i) (names_at clocks (seconds (drop (suc i) pairs)))))
+tail_length clocks pairs i d h =
+    let name = name_of (slice_get clocks (get_or pairs i d).second) in
+    let rest = tail_text (suc i) (names_at clocks (seconds (drop (suc i) pairs))) in
+    ap length (tail_step clocks pairs i d h)
+    ∙ length-append (gap_text i) (name ++ rest)
+    ∙ ap (λ n. length (gap_text i) + n) (length-append name rest)
+    ∙ ap (λ n. n + (length name + length rest)) (gap_length i)
 
 -- the bytes of the line of a group that is not empty, and of one that is
 pub group_has_line : (name : List ℕ) (clocks : List Clock) (group : List Pair) → 0 < length group → line_text (group_line name (names_at clocks (seconds group))) ≡ group_text name clocks group

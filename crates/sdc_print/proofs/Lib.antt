@@ -18,3 +18,4 @@ pub mod QueryRuns
 pub mod QueryWords
 pub mod RunFacts
 pub mod WaveText
+pub mod AddedLines

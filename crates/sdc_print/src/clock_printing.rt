@@ -1,10 +1,10 @@
 //! The lines of clocks.
 
-ghost use Rattle.std.specs.Prelude.{◌≡◌, OnOk};
+ghost use Rattle.std.specs.Prelude.{◌≡◌, OnOk, OnErr};
 ghost use Rattle.sdc_base.specs.Time.{IsUnit};
 ghost use Rattle.sdc_model.specs.PrintedLine.{lines_text};
 ghost use Rattle.sdc_model.specs.PrintedFile.{clock_lines};
-ghost use Rattle.sdc_print.specs.Added.{added};
+ghost use Rattle.sdc_print.specs.Added.{added, Overflows};
 ghost use Rattle.sdc_print.specs.Pieces.{clock_text, form_text};
 
 use crate::sinks::Sink;
@@ -15,7 +15,8 @@ use sdc_model::{Clock, Form, Wave};
 /// Adds the lines of clocks in order.
 pub fn push_clocks(out: &mut Sink, unit: i64, clocks: &List<Clock>) -> Result<(), NoMemory>
     requires { IsUnit unit }
-    ensures { OnOk result (out.new ≡ added out.old (lines_text (clock_lines unit clocks.now))) }
+    ensures adds { OnOk result (out.new ≡ added out.old (lines_text (clock_lines unit clocks.now))) }
+    ensures limit { OnErr result (Overflows (added out.old (lines_text (clock_lines unit clocks.now)))) }
 {
     for clock in clocks.as_slice() {
         push_form(out, unit, clock.name.as_bytes(), &clock.form)?;
@@ -26,7 +27,8 @@ pub fn push_clocks(out: &mut Sink, unit: i64, clocks: &List<Clock>) -> Result<()
 /// Adds the line of a clock by its form.
 fn push_form(out: &mut Sink, unit: i64, name: &[u8], form: &Form) -> Result<(), NoMemory>
     requires { IsUnit unit }
-    ensures { OnOk result (out.new ≡ added out.old (form_text unit name.now form.now)) }
+    ensures adds { OnOk result (out.new ≡ added out.old (form_text unit name.now form.now)) }
+    ensures limit { OnErr result (Overflows (added out.old (form_text unit name.now form.now))) }
 {
     match form {
         Form::Primary { wave } => push_clock(out, unit, name, wave)?,
@@ -38,7 +40,8 @@ fn push_form(out: &mut Sink, unit: i64, name: &[u8], form: &Form) -> Result<(), 
 /// Adds the line of a clock with a waveform of its own.
 fn push_clock(out: &mut Sink, unit: i64, name: &[u8], wave: &Wave) -> Result<(), NoMemory>
     requires { IsUnit unit }
-    ensures { OnOk result (out.new ≡ added out.old (clock_text unit name.now wave.now)) }
+    ensures adds { OnOk result (out.new ≡ added out.old (clock_text unit name.now wave.now)) }
+    ensures limit { OnErr result (Overflows (added out.old (clock_text unit name.now wave.now))) }
 {
     out.push(b"create_clock -name ")?;
     push_name(out, name)?;

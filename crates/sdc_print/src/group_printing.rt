@@ -1,8 +1,8 @@
 //! The lines of exclusive clocks.
 
-ghost use Rattle.std.specs.Prelude.{◌≡◌, ◌≤◌, IfOk, OnOk, length, slice_get};
+ghost use Rattle.std.specs.Prelude.{◌≡◌, ◌^◌, ◌≤◌, IfOk, OnOk, OnErr, length, slice_get};
 ghost use Rattle.sdc_model.specs.PrintedFile.{name_of, ArePairs};
-ghost use Rattle.sdc_print.specs.Added.{added};
+ghost use Rattle.sdc_print.specs.Added.{added, Overflows};
 ghost use Rattle.sdc_print.specs.Runs.{run_length, group_text, groups_text, second_names};
 
 use crate::sinks::{Sink, sum};
@@ -12,7 +12,8 @@ use sdc_model::{Clock, Pair};
 /// Adds the line of each clock with later exclusive clocks: the clock, and all of these. The pairs are in order.
 pub fn push_groups(out: &mut Sink, clocks: &List<Clock>, pairs: &List<Pair>) -> Result<(), NoMemory>
     requires { ArePairs (length clocks.now) pairs.now }
-    ensures { OnOk result (out.new ≡ added out.old (groups_text clocks.now pairs.now)) }
+    ensures adds { OnOk result (out.new ≡ added out.old (groups_text clocks.now pairs.now)) }
+    ensures limit { OnErr result (Overflows (added out.old (groups_text clocks.now pairs.now))) }
 {
     let mut rest = pairs.as_slice();
     for (place, clock) in clocks.as_slice().iter().enumerate() {
@@ -43,7 +44,8 @@ pub fn push_group(
     clocks: &List<Clock>,
     pairs: &[Pair],
 ) -> Result<(), NoMemory>
-    ensures { OnOk result (out.new ≡ added out.old (group_text name.now clocks.now pairs.now)) }
+    ensures adds { OnOk result (out.new ≡ added out.old (group_text name.now clocks.now pairs.now)) }
+    ensures limit { OnErr result (Overflows (added out.old (group_text name.now clocks.now pairs.now))) }
 {
     if pairs.is_empty() {
         return Ok(());
@@ -57,9 +59,10 @@ pub fn push_group(
 }
 
 /// Adds the names of the second clocks of pairs, with a blank between each two.
-#[tactic(auto, unfolding(crate::specs::Added::added))]
+#[tactic(auto, unfolding(crate::specs::Added::added, crate::specs::Added::Overflows))]
 fn push_second_names(out: &mut Sink, clocks: &List<Clock>, pairs: &[Pair]) -> Result<(), NoMemory>
-    ensures { OnOk result (out.new ≡ added out.old (second_names clocks.now pairs.now)) }
+    ensures adds { OnOk result (out.new ≡ added out.old (second_names clocks.now pairs.now)) }
+    ensures limit { OnErr result (Overflows (added out.old (second_names clocks.now pairs.now))) }
 {
     match out {
         Sink::Bytes(_) => write_second_names(out, clocks, pairs)?,
@@ -68,9 +71,10 @@ fn push_second_names(out: &mut Sink, clocks: &List<Clock>, pairs: &[Pair]) -> Re
     Ok(())
 }
 
-/// The number of bytes of these names with their blanks.
+/// The number of bytes of these names with their blanks. The one error is the answer where it passes 64 bits.
 fn second_names_length(clocks: &List<Clock>, pairs: &[Pair]) -> Result<u64, NoMemory>
-    ensures { IfOk result (λ bytes. bytes ≡ length (second_names clocks.now pairs.now)) }
+    ensures counts { IfOk result (λ bytes. bytes ≡ length (second_names clocks.now pairs.now)) }
+    ensures limit { OnErr result (2 ^ 64 ≤ length (second_names clocks.now pairs.now)) }
 {
     let mut bytes = 0;
     for (place, pair) in pairs.iter().enumerate() {
@@ -92,7 +96,8 @@ fn clock_name_length(clocks: &List<Clock>, place: u32) -> u64
 
 /// Adds the names one by one.
 fn write_second_names(out: &mut Sink, clocks: &List<Clock>, pairs: &[Pair]) -> Result<(), NoMemory>
-    ensures { OnOk result (out.new ≡ added out.old (second_names clocks.now pairs.now)) }
+    ensures adds { OnOk result (out.new ≡ added out.old (second_names clocks.now pairs.now)) }
+    ensures limit { OnErr result (Overflows (added out.old (second_names clocks.now pairs.now))) }
 {
     for (place, pair) in pairs.iter().enumerate() {
         if place > 0 {
@@ -105,7 +110,8 @@ fn write_second_names(out: &mut Sink, clocks: &List<Clock>, pairs: &[Pair]) -> R
 
 /// Adds the name of the clock at a place.
 fn push_clock_name(out: &mut Sink, clocks: &List<Clock>, place: u32) -> Result<(), NoMemory>
-    ensures { OnOk result (out.new ≡ added out.old (name_of (slice_get clocks.now place))) }
+    ensures adds { OnOk result (out.new ≡ added out.old (name_of (slice_get clocks.now place))) }
+    ensures limit { OnErr result (Overflows (added out.old (name_of (slice_get clocks.now place)))) }
 {
     match clocks.get(place as usize) {
         Some(clock) => out.push(clock.name.as_bytes()),

@@ -1,10 +1,10 @@
 //! The printed file.
 
-ghost use Rattle.std.specs.Prelude.{◌≡◌, ◌+◌, IfOk, OnOk, length};
+ghost use Rattle.std.specs.Prelude.{◌≡◌, ◌+◌, ◌^◌, ◌≤◌, IfOk, OnOk, OnErr, length};
 ghost use Rattle.sdc_base.specs.Time.{IsUnit};
 ghost use Rattle.sdc_model.specs.PrintedLine.{lines_text};
 ghost use Rattle.sdc_model.specs.PrintedFile.{IsPrintable, header_lines, printed_file, unit_text};
-ghost use Rattle.sdc_print.specs.Added.{added};
+ghost use Rattle.sdc_print.specs.Added.{added, Overflows};
 ghost use Rattle.sdc_print.specs.Runs.{group_text};
 
 use crate::clock_printing::push_clocks;
@@ -29,10 +29,11 @@ pub fn print(alloc: Global, design: &Design, mode: &Mode) -> Result<List<u8>, No
 }
 
 /// The number of bytes of that file, which is not made. No memory is taken: the one error, want of memory, is the
-/// answer where the number passes 64 bits.
+/// answer where the number passes 64 bits, and nowhere else.
 pub fn printed_length(design: &Design, mode: &Mode) -> Result<u64, NoMemory>
     requires { IsPrintable design.now mode.now }
-    ensures { IfOk result (λ count. count ≡ length (printed_file design.now mode.now)) }
+    ensures counts { IfOk result (λ count. count ≡ length (printed_file design.now mode.now)) }
+    ensures limit { OnErr result (2 ^ 64 ≤ length (printed_file design.now mode.now)) }
 {
     let mut out = Sink::Count(0);
     push_file(&mut out, design, mode)?;
@@ -45,15 +46,17 @@ pub fn printed_length(design: &Design, mode: &Mode) -> Result<u64, NoMemory>
 /// The number of bytes of a front, and of the line behind it that makes a clock and the second ones of some pairs
 /// exclusive. The line is not made, and there is none where there are no pairs. The file of a mode is that of its
 /// clocks alone, then such a line for each clock, with the pairs of which it is the first. No memory is taken: the
-/// one error, want of memory, is the answer where the number passes 64 bits.
+/// one error, want of memory, is the answer where the number passes 64 bits, and nowhere else.
 pub fn length_with_group(
     front: u64,
     clock: &Clock,
     clocks: &List<Clock>,
     pairs: &List<Pair>,
 ) -> Result<u64, NoMemory>
-    ensures { IfOk result
+    ensures counts { IfOk result
         (λ count. count ≡ front + length (group_text clock.now.name clocks.now pairs.now)) }
+    ensures limit { OnErr result
+        (2 ^ 64 ≤ front + length (group_text clock.now.name clocks.now pairs.now)) }
 {
     let mut out = Sink::Count(front);
     push_group(&mut out, clock.name.as_bytes(), clocks, pairs.as_slice())?;
@@ -66,7 +69,8 @@ pub fn length_with_group(
 /// Adds the file.
 fn push_file(out: &mut Sink, design: &Design, mode: &Mode) -> Result<(), NoMemory>
     requires { IsPrintable design.now mode.now }
-    ensures { OnOk result (out.new ≡ added out.old (printed_file design.now mode.now)) }
+    ensures adds { OnOk result (out.new ≡ added out.old (printed_file design.now mode.now)) }
+    ensures limit { OnErr result (Overflows (added out.old (printed_file design.now mode.now))) }
 {
     push_header(out, design.unit)?;
     push_clocks(out, design.unit, &mode.clocks)?;
@@ -76,7 +80,8 @@ fn push_file(out: &mut Sink, design: &Design, mode: &Mode) -> Result<(), NoMemor
 
 /// Adds the version of SDC and the time unit.
 fn push_header(out: &mut Sink, unit: i64) -> Result<(), NoMemory>
-    ensures { OnOk result (out.new ≡ added out.old (lines_text (header_lines unit))) }
+    ensures adds { OnOk result (out.new ≡ added out.old (lines_text (header_lines unit))) }
+    ensures limit { OnErr result (Overflows (added out.old (lines_text (header_lines unit)))) }
 {
     out.push(b"set sdc_version 2.1\nset_units -time ")?;
     out.push(unit_name(unit).as_bytes())?;

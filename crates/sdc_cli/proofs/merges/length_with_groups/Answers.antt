@@ -13,4 +13,4 @@ loop-first-preserved c =
     let row : c.push_row.new.pairs ≡ filter (λ pair. pair.first == first) c.args.rows.now =
     c.in_ok-push_row.ensures ∙ ap (λ ps. ps ++ filter (λ pair. pair.first == first) c.args.rows.now) c.new-pairs.ensures in
     groups_more clocks c.args.rows.now c.push_row.new.pairs first c.clock-item.result c.loop-first.bytes (length (group_text c.clock-item.result.name clocks c.push_row.new.pairs)) c.in_ok-bytes.bytes
-    (c.args.front + length (groups_text clocks c.args.rows.now)) within (rw c.as_slice-clock-items.ensures at c.clock-item.is) row refl c.in_ok-bytes.ensures c.loop-first.invariant
+    (c.args.front + length (groups_text clocks c.args.rows.now)) within (rw c.as_slice-clock-items.ensures at c.clock-item.is) row refl c.in_ok-bytes.ensures.counts c.loop-first.invariant

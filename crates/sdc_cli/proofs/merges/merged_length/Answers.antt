@@ -55,5 +55,5 @@ returns c =
     rw (← c.as_slice.ensures, ← c.in_ok-views.ensures, ← c.len-count.ensures) c.in_ok-rows.ensures in
     let clocks : alone.clocks ≡ map.clocks = c.clock_mode-mode.ensures.clocks ∙ c.in_ok-copy.ensures in
     let none : alone.exclusive ≡ [] = c.clock_mode-mode.ensures.exclusive ∙ c.new-2.ensures in
-    let front : c.in_ok-front.front ≡ length (printed_file empty_design alone) = rw c.requires.empty at c.in_ok-front.ensures in
+    let front : c.in_ok-front.front ≡ length (printed_file empty_design alone) = rw c.requires.empty at c.in_ok-front.ensures.counts in
     counted modes map c.in_ok-rows.rows alone c.in_ok-front.front c.in_ok-bytes.bytes identity exclusive clocks none front c.in_ok-bytes.ensures

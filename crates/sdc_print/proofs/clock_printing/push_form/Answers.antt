@@ -9,12 +9,12 @@ use Rattle.sdc_print.specs.Added.{added}
 use Rattle.sdc_print.proofs.AddedFacts.{added_none}
 use Rattle.sdc_print.proofs.clock_printing.push_form.Goals as goal
 
-pub returns-in_ok-push_clock-in-Primary : goal.returns-in_ok-push_clock-in-Primary
-returns-in_ok-push_clock-in-Primary c =
+pub returns-in_ok-push_clock-in-Primary-clause-adds : goal.returns-in_ok-push_clock-in-Primary-clause-adds
+returns-in_ok-push_clock-in-Primary-clause-adds c =
     let unit : SFits w64 c.args.unit = search rules in
     rw c.in-Primary.is
-    ((simp to_z-of_z at c.in_ok-push_clock-in-Primary.ensures)
+    ((simp to_z-of_z at c.in_ok-push_clock-in-Primary.ensures.adds)
     ∙ ap (added c.args.out.now) (sym (append-nil (line_text (clock_line c.args.unit c.args.name.now c.in-Primary.wave)))))
 
-pub returns-in-Generated : goal.returns-in-Generated
-returns-in-Generated c = rw c.in-Generated.is (sym (added_none c.args.out.now))
+pub returns-in-Generated-clause-adds : goal.returns-in-Generated-clause-adds
+returns-in-Generated-clause-adds c = rw c.in-Generated.is (sym (added_none c.args.out.now))

@@ -4,6 +4,6 @@ use Rattle.sdc_print.specs.Added.{added}
 use Rattle.sdc_print.proofs.AddedFacts.{added_none}
 use Rattle.sdc_print.proofs.group_printing.push_clock_name.Goals as goal
 
-pub returns-in-None : goal.returns-in-None
-returns-in-None c =
+pub returns-in-None-clause-adds : goal.returns-in-None-clause-adds
+returns-in-None-clause-adds c =
     sym (added_none c.args.out.now) ∙ ap (λ o. added c.args.out.now (name_of o)) c.in-None.ensures.value

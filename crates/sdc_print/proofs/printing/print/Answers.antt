@@ -5,9 +5,9 @@ use Rattle.sdc_print.proofs.printing.print.Goals as goal
 
 pub unreachable-requires : goal.unreachable-requires
 unfolding added
-unreachable-requires c = cc (c.in_ok-push_file.ensures, c.in-Count.is)
+unreachable-requires c = cc (c.in_ok-push_file.ensures.adds, c.in-Count.is)
 
 pub returns : goal.returns
 returns c =
     kept_bytes c.push_file.new.out c.new.result c.in-Bytes.bytes (printed_file c.args.design.now c.args.mode.now)
-    c.new.ensures c.in_ok-push_file.ensures c.in-Bytes.is
+    c.new.ensures c.in_ok-push_file.ensures.adds c.in-Bytes.is
