@@ -1,6 +1,6 @@
 //! The pins of a design's cells, without their names.
 
-ghost use Rattle.std.specs.Prelude.{◌≡◌, ◌<◌, IfOk, OnOk, Some, length, slice_get};
+ghost use Rattle.std.specs.Prelude.{◌≡◌, ◌<◌, ◌≤◌, ◌⊎◌, IfOk, OnErr, OnOk, Some, length, slice_get};
 ghost use Rattle.std.specs.List.{All, AllZip, enumerate_from, flat_map};
 ghost use Rattle.source_types.specs.declared.library_cells.LibPin.{LibPin};
 ghost use Rattle.sdc_model.specs.Connections.{pins_of};
@@ -26,8 +26,8 @@ use sdc_base::{List, NoMemory};
 use sdc_model::{Bit, Source};
 use std::alloc::Global;
 
-/// The row of the pin at a place of the cell at a place, by its connection. Numbers that are too large for a design are
-/// want of memory.
+/// The row of the pin at a place of the cell at a place, by its connection. No memory is taken: the one error, want of
+/// memory, is the answer where a number is too large for a design.
 fn pin_row(
     design: &Hierarchy<'_>,
     tables: &[NetTable<'_>],
@@ -42,9 +42,10 @@ fn pin_row(
     requires cell { cell < length design.now.layout.cells }
     requires pin { (found : PlacedCell) → slice_get (cells_in design.now) cell ≡ Some found → at < length found.kind.pins }
     requires bits { (row : CellRow) → slice_get design.now.layout.cells cell ≡ Some row → All (HasBit design.now row.at.spot) (shown connection) }
-    ensures { (found : PlacedCell) (pin : LibPin) → slice_get (cells_in design.now) cell ≡ Some found
+    ensures is { (found : PlacedCell) (pin : LibPin) → slice_get (cells_in design.now) cell ≡ Some found
         → slice_get found.kind.pins at ≡ Some pin
         → IfOk result (IsPinRow design.now (cell_pin cell found ((at, pin), shown connection.entry))) }
+    ensures limit { OnErr result ((4294967296 ≤ cell) ⊎ (65536 ≤ at)) }
 {
     let row = item_at(design.layout.cells.as_slice(), cell);
     let kind = kind_at(design, cell);

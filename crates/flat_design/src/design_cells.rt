@@ -1,8 +1,10 @@
 //! The cells of a design.
 
-ghost use Rattle.std.specs.Prelude.{◌≡◌, ◌<◌, IfOk, Some, length, map, slice_get};
+ghost use Rattle.std.specs.Prelude.{◌≡◌, ◌<◌, ◌≤◌, ◌⊎◌, IfOk, OnErr, Some, length, map, slice_get};
 ghost use Rattle.std.specs.List.{AllZip};
 ghost use Rattle.sdc_model.specs.FlatDesign.{FlatCell, IsCell};
+ghost use Rattle.sdc_model.specs.Instances.{PlacedCell};
+ghost use Rattle.flat_design.specs.declared.layout.CellRow.{CellRow};
 ghost use Rattle.flat_design.specs.Hierarchy.{IsHierarchy, cell_name, cells_in};
 ghost use Rattle.flat_design.specs.NamedFaults.{flat_of};
 
@@ -13,12 +15,16 @@ use sdc_base::{List, NoMemory, Text};
 use sdc_model::{CellInfo, Pin};
 use std::alloc::Global;
 
-/// The cell at a place, by its name. Numbers that are too large for a design are want of memory.
+/// The cell at a place, by its name. No memory is taken: the one error, want of memory, is the answer where a number is
+/// too large for a design.
 fn cell_info(design: &Hierarchy<'_>, place: usize, name: Text) -> Result<CellInfo, NoMemory>
     requires is { IsHierarchy design.now }
     requires within { place < length design.now.layout.cells }
-    ensures { (cell : FlatCell) → slice_get (flat_of design.now).cells place ≡ Some cell
+    ensures is { (cell : FlatCell) → slice_get (flat_of design.now).cells place ≡ Some cell
         → name ≡ cell_name cell.is → IfOk result (IsCell design.now.library.now cell) }
+    ensures limit { (row : CellRow) (cell : PlacedCell) → slice_get design.now.layout.cells place ≡ Some row
+        → slice_get (cells_in design.now) place ≡ Some cell
+        → OnErr result ((4294967296 ≤ row.kind) ⊎ (65536 ≤ length cell.kind.pins)) }
 {
     let row = item_at(design.layout.cells.as_slice(), place);
     let pins = kind_at(design, place).pins.len();

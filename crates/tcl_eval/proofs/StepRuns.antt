@@ -1,6 +1,6 @@
 -- Steps of an expression that are run one after the other: whatever those behind give, all give.
 use Rattle.std.proofs.Common.{◌≡◌, ◌≤◌, ◌+◌, ℕ, List, [], ◌∷◌, Option, Some, None, Result, Ok, Err, refl, sym, ap, subst, inl, arith}
-use Rattle.sdc_base.specs.Gives.{Gives, Meets}
+use Rattle.sdc_base.specs.Gives.{Meets}
 use Rattle.sdc_base.specs.declared.memory.Stop.{Stop}
 use Rattle.sdc_base.specs.declared.memory.Stop.TheVariants as stop
 use Rattle.source_types.specs.declared.commands.Word.{Word}
@@ -20,10 +20,12 @@ use Rattle.sdc_model.specs.ExpressionSteps.{ParsesTo, steps_of}
 use Rattle.sdc_model.specs.ExpressionValue.{changed, computed, decided, joined}
 use Rattle.sdc_model.specs.HostCalls.{World, text_in}
 use Rattle.sdc_model.specs.NamedCommands.{ReadsWord}
+use Rattle.sdc_model.specs.Turns.{tcl_outcome}
 use Rattle.sdc_model.specs.WordValues.{Level, RunsWord}
 use Rattle.tcl_eval.specs.StepsRun.{GoesOnDecided, GoesOnWith, RunsSteps, StepsOn, Takes, TakesDecision, TakesValue, ended}
 use Rattle.tcl_eval.specs.Worlds.{Does, as_answer}
 use Rattle.tcl_eval.proofs.StepsFacts.{steps_are_trees}
+use Rattle.tcl_eval.proofs.TurnFacts.{IsRaised, meets_raised}
 
 abbrev Reader : Type 0 → Type 1
 Reader State = ℕ → Word → Turn State (List ℕ)
@@ -139,21 +141,17 @@ step_refused Reads left text expression start passed values new rest s ss now af
     (on (Err kind) after (subst (λ xs. RunsSteps Reads 0 passed xs values now (Err kind) after) (sym e) (ran ss)))
 step_refused Reads left text expression start passed values new rest s ss now after stop.NoMemory parsed within on e ran = tt
 
-ends_with : {State : Type 0} (Reads : Reader State) (passed : ℕ) (values : List Scalar) (w : State) → RunsSteps Reads 0 passed [] values w (raised (ended values)) w
+ends_with : {State : Type 0} (Reads : Reader State) (passed : ℕ) (values : List Scalar) (w : State) → RunsSteps Reads 0 passed [] values w (tcl_outcome (ended values)) w
 ends_with Reads passed [] w = (refl, refl)
 ends_with Reads passed (v ∷ []) w = (refl, refl)
 ends_with Reads passed (v ∷ x ∷ values) w = (refl, refl)
 
-pub steps_run : {State : Type 0} (Reads : Reader State) (left : ℕ) (text : List ℕ) (expression : Expression) (start : State) (passed : ℕ) (values : List Scalar) (rest : List ExpressionStep) (now : State) (r : Result Scalar (Stop TclKind))
+pub steps_run : {State : Type 0} (Reads : Reader State) (left : ℕ) (text : List ℕ) (expression : Expression) (start : State) (passed : ℕ) (values : List Scalar) (rest : List ExpressionStep) (now : State) (r : Result Scalar TclKind) (s : Result Scalar (Stop Kind))
     → ParsesTo text (Ok expression) → expression.levels ≤ left → AllStepsOn Reads expression.steps start passed values rest now → rest ≡ []
-    → Gives r (ended values) → Meets (as_answer r) (λ given. RunsExpression Reads left text start given now)
-steps_run {State = S} Reads left text expression start passed values rest now r parsed within on e last = by_answer r last where
-  all_run : RunsExpression Reads left text start (raised (ended values)) now
-  all_run =
-      text_gives Reads left text expression start (raised (ended values)) now parsed within
-      (on (raised (ended values)) now (subst (λ xs. RunsSteps Reads 0 passed xs values now (raised (ended values)) now) (sym e) (ends_with Reads passed values now)))
-
-  by_answer : (r : Result Scalar (Stop TclKind)) → Gives r (ended values) → Meets (as_answer r) (λ given. RunsExpression Reads left text start given now)
-  by_answer (Ok v) h = subst (λ o. RunsExpression Reads left text start (raised o) now) h all_run
-  by_answer (Err (stop.Refused kind)) h = subst (λ o. RunsExpression Reads left text start (raised o) now) h all_run
-  by_answer (Err stop.NoMemory) h = tt
+    → r ≡ ended values → IsRaised r s → Meets s (λ given. RunsExpression Reads left text start given now)
+steps_run Reads left text expression start passed values rest now r s parsed within on e last raises =
+    let given = tcl_outcome (ended values) in
+    let all_run : RunsExpression Reads left text start given now =
+    text_gives Reads left text expression start given now parsed within
+    (on given now (subst (λ xs. RunsSteps Reads 0 passed xs values now given now) (sym e) (ends_with Reads passed values now))) in
+    meets_raised r s (λ given. RunsExpression Reads left text start given now) raises (subst (λ o. RunsExpression Reads left text start (tcl_outcome o) now) (sym last) all_run)

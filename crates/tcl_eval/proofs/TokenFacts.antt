@@ -17,6 +17,7 @@ use Rattle.tcl_words.specs.declared.spelled.Spelled.{Spelled}
 use Rattle.tcl_words.specs.Operands.{IsFront, OperandAt}
 use Rattle.tcl_words.specs.Spans.{Keeps, LeadsTo}
 use Rattle.tcl_words.proofs.OneOutcome.{pieces_once}
+use Rattle.tcl_words.proofs.Refusals.{IsRefused, meets_refusal}
 use Rattle.tcl_words.proofs.RunFacts.{drop_all, keeps_one}
 use Rattle.tcl_eval.specs.declared.lexed.Lexed.{Lexed}
 use Rattle.tcl_eval.specs.Lexing.{LexedAt, TokenFrom, word_token}
@@ -126,15 +127,17 @@ number_lexeme b bs n p = rw (ne_eqb b 123 n.brace, ne_eqb b 34 n.quote, ne_eqb b
 other_lexeme : (b : ℕ) (bs : List ℕ) → NoWord b → (is_digit b || b == 46) ≡ false → lexeme (b ∷ bs) ≡ other_byte b bs
 other_lexeme b bs n p = rw (ne_eqb b 123 n.brace, ne_eqb b 34 n.quote, ne_eqb b 36 n.dollar, ne_eqb b 91 n.bracket, p) refl
 
-pub number_begins : (text : List ℕ) (at : ℕ) (r : Result Lexed (Stop TclKind)) → at < length text → (get_or text at 0 ≡ 123 → ⊥) → (get_or text at 0 ≡ 34 → ⊥) → (get_or text at 0 ≡ 36 → ⊥) → (get_or text at 0 ≡ 91 → ⊥) → (is_digit (get_or text at 0) || get_or text at 0 == 46) ≡ true → Meets r (LexedAt (IsFront (number_token (drop at text) (behind_number (drop at text)))) text at) → Meets r (LexedAt (IsTokenOf (lexeme (drop at text)) (drop at text)) text at)
-number_begins text at r within brace quote dollar bracket p m =
+pub number_begins : (text : List ℕ) (at : ℕ) (r : Result Lexed TclKind) (s : Result Lexed (Stop TclKind)) → at < length text → (get_or text at 0 ≡ 123 → ⊥) → (get_or text at 0 ≡ 34 → ⊥) → (get_or text at 0 ≡ 36 → ⊥) → (get_or text at 0 ≡ 91 → ⊥) → (is_digit (get_or text at 0) || get_or text at 0 == 46) ≡ true → IsRefused r s → LexedAt (IsFront (number_token (drop at text) (behind_number (drop at text)))) text at r → Meets s (LexedAt (IsTokenOf (lexeme (drop at text)) (drop at text)) text at)
+number_begins text at r s within brace quote dollar bracket p e m =
     let n : NoWord (get_or text at 0) = record { brace = brace; quote = quote; dollar = dollar; bracket = bracket } in
-    lexeme_here text at number_opens r (at_byte text at within ∙ number_lexeme (get_or text at 0) (drop (at + 1) text) n p) m
+    lexeme_here text at number_opens s (at_byte text at within ∙ number_lexeme (get_or text at 0) (drop (at + 1) text) n p)
+    (meets_refusal r s (LexedAt (IsTokenOf number_opens (drop at text)) text at) e m)
 
-pub other_begins : (text : List ℕ) (at : ℕ) (r : Result Lexed (Stop TclKind)) → at < length text → (get_or text at 0 ≡ 123 → ⊥) → (get_or text at 0 ≡ 34 → ⊥) → (get_or text at 0 ≡ 36 → ⊥) → (get_or text at 0 ≡ 91 → ⊥) → (is_digit (get_or text at 0) || get_or text at 0 == 46) ≡ false → Meets r (LexedAt (IsFront (operator_front (get_or text at 0) (drop (at + 1) text))) text at) → Meets r (LexedAt (IsTokenOf (lexeme (drop at text)) (drop at text)) text at)
-other_begins text at r within brace quote dollar bracket p m =
+pub other_begins : (text : List ℕ) (at : ℕ) (r : Result Lexed TclKind) (s : Result Lexed (Stop TclKind)) → at < length text → (get_or text at 0 ≡ 123 → ⊥) → (get_or text at 0 ≡ 34 → ⊥) → (get_or text at 0 ≡ 36 → ⊥) → (get_or text at 0 ≡ 91 → ⊥) → (is_digit (get_or text at 0) || get_or text at 0 == 46) ≡ false → IsRefused r s → LexedAt (IsFront (operator_front (get_or text at 0) (drop (at + 1) text))) text at r → Meets s (LexedAt (IsTokenOf (lexeme (drop at text)) (drop at text)) text at)
+other_begins text at r s within brace quote dollar bracket p e m =
     let n : NoWord (get_or text at 0) = record { brace = brace; quote = quote; dollar = dollar; bracket = bracket } in
-    lexeme_here text at (other_byte (get_or text at 0) (drop (at + 1) text)) r (at_byte text at within ∙ other_lexeme (get_or text at 0) (drop (at + 1) text) n p) m
+    lexeme_here text at (other_byte (get_or text at 0) (drop (at + 1) text)) s (at_byte text at within ∙ other_lexeme (get_or text at 0) (drop (at + 1) text) n p)
+    (meets_refusal r s (LexedAt (IsTokenOf (other_byte (get_or text at 0) (drop (at + 1) text)) (drop at text)) text at) e m)
 
 -- ---- behind blanks
 

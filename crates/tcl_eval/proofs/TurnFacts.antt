@@ -1,5 +1,6 @@
 -- Turns of a run, one behind the other, as functions answer them.
 use Rattle.std.proofs.Common.{◌≡◌, ◌+◌, ◌<◌, ◌++◌, ℕ, suc, drop, drop-cons, get_or, length, arith, List, ◌∷◌, Result, Ok, Err, refl, sym, ap, subst, ◌∙◌, append_assoc}
+use Rattle.std.specs.Prelude.{IsErrAnd, MatchResult}
 use Rattle.sdc_base.specs.Gives.{Gives, Meets}
 use Rattle.sdc_base.specs.declared.memory.Stop.{Stop}
 use Rattle.sdc_base.specs.declared.memory.Stop.TheVariants as stop
@@ -57,6 +58,20 @@ answer_ok {A = T} (Err (stop.Refused kind)) v Rule h e = absurd (no_value e) whe
 answer_ok {A = T} (Err stop.NoMemory) v Rule h e = absurd (no_value e) where
   no_value : ◌≡◌ {A = Result T (Stop Kind)} (Ok v) (Err stop.NoMemory) → ⊥
   no_value e = cc
+
+-- an answer of a rule of Tcl that takes no memory, as one of a run
+abbrev pub IsRaised : {A : Type 0} → Result A TclKind → Result A (Stop Kind) → Type 0
+IsRaised r s = MatchResult r (λ x. s ≡ Ok x) (λ kind. IsErrAnd s (λ why. why ≡ stop.Refused (Tcl kind)))
+
+pub meets_raised : {A : Type 0} (r : Result A TclKind) (s : Result A (Stop Kind)) (Outcome : Result A Kind → Type 0) → IsRaised r s → Outcome (tcl_outcome r) → Meets s Outcome
+meets_raised (Ok x) s Outcome e h = subst (λ t. Meets t Outcome) (sym e) h
+meets_raised (Err kind) (Ok x) Outcome e h = absurd e
+meets_raised (Err kind) (Err why) Outcome e h = subst (λ w. Meets (Err w) Outcome) (sym e) h
+
+pub gives_raised : {A : Type 0} (outcome r : Result A TclKind) (s : Result A (Stop Kind)) → IsRaised r s → r ≡ outcome → Gives s (tcl_outcome outcome)
+gives_raised outcome (Ok x) s e is = subst (λ t. Gives t (tcl_outcome outcome)) (sym e) (ap tcl_outcome (sym is))
+gives_raised outcome (Err kind) (Ok x) e is = absurd e
+gives_raised outcome (Err kind) (Err why) e is = subst (λ w. Gives (Err w) (tcl_outcome outcome)) (sym e) (ap tcl_outcome (sym is))
 
 -- ---- things in a row
 

@@ -2,7 +2,6 @@
 
 ghost use Rattle.std.specs.Prelude.{◌≡◌, ◌<◌, ◌≤◌, ◌==◌, ◌||◌, true, length, drop, slice_index};
 ghost use Rattle.std.specs.Str.{IsCharBoundary};
-ghost use Rattle.sdc_base.specs.Gives.{Meets};
 ghost use Rattle.sdc_model.specs.Bytes.{behind, is_digit};
 ghost use Rattle.sdc_model.specs.ExpressionTokens.{begins_digits, behind_decimals, behind_exponent, behind_number, behind_sign, number_token};
 ghost use Rattle.tcl_words.specs.Operands.{IsFront};
@@ -10,7 +9,7 @@ ghost use Rattle.tcl_words.specs.Spans.{LeadsTo};
 ghost use Rattle.tcl_eval.specs.Lexing.{LexedAt};
 
 use crate::lexed::Lexed;
-use sdc_base::{Fixed, NumberError, Stop};
+use sdc_base::{Fixed, NumberError};
 use sdc_model::{ExpressionToken, TclKind};
 use tcl_words::stands_at;
 
@@ -88,10 +87,10 @@ fn number_end(bytes: &[u8], at: usize) -> usize
 /// The number that stands at a place, where a digit or a point does. Refused as `BadExpr` where it has not the form
 /// of a number: no digit, or too many of them, or too great an exponent.
 #[tactic(auto, using(crate::proofs::NumberFacts::number_found, crate::proofs::NumberFacts::number_out, crate::proofs::NumberFacts::number_malformed, crate::proofs::NumberFacts::number_divided))]
-pub fn number_at(text: &str, at: usize) -> Result<Lexed, Stop<TclKind>>
+pub fn number_at(text: &str, at: usize) -> Result<Lexed, TclKind>
     requires within { at < length text.now }
     requires boundary { IsCharBoundary text.now at }
-    ensures { Meets result (LexedAt (IsFront (number_token (drop at text.now) (behind_number (drop at text.now)))) text.now at) }
+    ensures { LexedAt (IsFront (number_token (drop at text.now) (behind_number (drop at text.now)))) text.now at result }
 {
     let end = number_end(text.as_bytes(), at);
     match Fixed::read(&text[at..end]) {
@@ -103,8 +102,6 @@ pub fn number_at(text: &str, at: usize) -> Result<Lexed, Stop<TclKind>>
             token: ExpressionToken::Number(Err(NumberError::NumberRange)),
             end,
         }),
-        Err(NumberError::NumberForm | NumberError::DivideByZero) => {
-            Err(Stop::Refused(TclKind::BadExpr))
-        }
+        Err(NumberError::NumberForm | NumberError::DivideByZero) => Err(TclKind::BadExpr),
     }
 }

@@ -6,7 +6,7 @@ ghost use Rattle.source_types.specs.declared.expressions.BinaryOperator.TheVaria
 ghost use Rattle.sdc_model.specs.ExpressionValue as spec;
 
 use crate::values::{
-    computed, is_numeric, is_true, number_of, numbers_of, refused, text_of, truth_of, truth_value,
+    computed, is_numeric, is_true, number_of, numbers_of, text_of, truth_of, truth_value,
 };
 use sdc_base::{Fixed, Stop};
 use sdc_model::{BinaryOperator, Scalar, TclKind, UnaryOperator};
@@ -160,7 +160,7 @@ fn compared(
     ensures { Gives result (spec.compared wanted left.now right.now) }
 {
     if is_numeric(left) && is_numeric(right) {
-        return refused(compared_numbers(wanted, left, right));
+        return compared_numbers(wanted, left, right).map_err(Stop::Refused);
     }
     compared_texts(alloc, wanted, left, right)
 }
@@ -179,21 +179,21 @@ pub fn joined(
     ensures { Gives result (spec.joined operator left.now right.now) }
 {
     match operator {
-        BinaryOperator::Or => refused(either(left, right)),
-        BinaryOperator::And => refused(both(left, right)),
+        BinaryOperator::Or => either(left, right).map_err(Stop::Refused),
+        BinaryOperator::And => both(left, right).map_err(Stop::Refused),
         BinaryOperator::Equal => compared(alloc, true, left, right),
         BinaryOperator::NotEqual => compared(alloc, false, left, right),
         BinaryOperator::TextEqual => compared_texts(alloc, true, left, right),
         BinaryOperator::TextNotEqual => compared_texts(alloc, false, left, right),
-        BinaryOperator::Less => refused(less(left, right)),
-        BinaryOperator::LessEqual => refused(less_equal(left, right)),
-        BinaryOperator::Greater => refused(greater(left, right)),
-        BinaryOperator::GreaterEqual => refused(greater_equal(left, right)),
-        BinaryOperator::Add => refused(sum(left, right)),
-        BinaryOperator::Subtract => refused(difference(left, right)),
-        BinaryOperator::Multiply => refused(product(left, right)),
-        BinaryOperator::Divide => refused(quotient(left, right)),
-        BinaryOperator::Remainder => refused(remainder(left, right)),
+        BinaryOperator::Less => less(left, right).map_err(Stop::Refused),
+        BinaryOperator::LessEqual => less_equal(left, right).map_err(Stop::Refused),
+        BinaryOperator::Greater => greater(left, right).map_err(Stop::Refused),
+        BinaryOperator::GreaterEqual => greater_equal(left, right).map_err(Stop::Refused),
+        BinaryOperator::Add => sum(left, right).map_err(Stop::Refused),
+        BinaryOperator::Subtract => difference(left, right).map_err(Stop::Refused),
+        BinaryOperator::Multiply => product(left, right).map_err(Stop::Refused),
+        BinaryOperator::Divide => quotient(left, right).map_err(Stop::Refused),
+        BinaryOperator::Remainder => remainder(left, right).map_err(Stop::Refused),
     }
 }
 

@@ -1,13 +1,11 @@
 //! Operators and parentheses of an expression, as they are spelled (Tcl).
 
 ghost use Rattle.std.specs.Prelude.{◌≡◌, ◌<◌, ◌≤◌, ◌+◌, length, drop, slice_index};
-ghost use Rattle.sdc_base.specs.Gives.{Meets};
 ghost use Rattle.sdc_model.specs.ExpressionTokens as grammar;
 ghost use Rattle.tcl_words.specs.Operands.{IsFront};
 ghost use Rattle.tcl_eval.specs.Lexing.{LexedAt, PairAt};
 
 use crate::lexed::Lexed;
-use sdc_base::Stop;
 use sdc_model::{BinaryOperator, ExpressionToken, TclKind};
 
 /// The operator that two bytes spell, if they spell one.
@@ -68,9 +66,9 @@ fn pair_at(bytes: &[u8], at: usize) -> Option<BinaryOperator>
 
 /// The operator or parenthesis at a place. Refused as `BadExpr` where there is none.
 #[tactic(auto, using(crate::proofs::OperatorFacts::pair_token, crate::proofs::OperatorFacts::single_token, crate::proofs::OperatorFacts::no_token))]
-pub fn operator_at(bytes: &[u8], at: usize) -> Result<Lexed, Stop<TclKind>>
+pub fn operator_at(bytes: &[u8], at: usize) -> Result<Lexed, TclKind>
     requires { at < length bytes.now }
-    ensures { Meets result (LexedAt (IsFront (grammar.operator_front (slice_index bytes.now at) (drop (at + 1) bytes.now))) bytes.now at) }
+    ensures { LexedAt (IsFront (grammar.operator_front (slice_index bytes.now at) (drop (at + 1) bytes.now))) bytes.now at result }
 {
     if let Some(operator) = pair_at(bytes, at) {
         return Ok(Lexed {
@@ -80,6 +78,6 @@ pub fn operator_at(bytes: &[u8], at: usize) -> Result<Lexed, Stop<TclKind>>
     }
     match single(bytes[at]) {
         Some(token) => Ok(Lexed { token, end: at + 1 }),
-        None => Err(Stop::Refused(TclKind::BadExpr)),
+        None => Err(TclKind::BadExpr),
     }
 }

@@ -1,13 +1,11 @@
 //! How far a run is: what it changed beside its host, and at which level it is.
 
 ghost use Rattle.std.specs.Prelude.{◌≡◌, ◌-◌, ◌<◌, [], OnOk};
-ghost use Rattle.sdc_base.specs.Gives.{Meets};
 ghost use Rattle.sdc_model.specs.Variables.{with_variable};
 ghost use Rattle.tcl_eval.specs.Worlds.{Begins};
 
-use crate::faults::refuse;
 use crate::variables::Variables;
-use sdc_base::{Duplicate, NoMemory, Stop};
+use sdc_base::{Duplicate, NoMemory};
 use sdc_model::{Kind, TclKind, Value};
 use std::alloc::Global;
 
@@ -81,11 +79,11 @@ impl Progress {
     }
 
     /// Counts a command that begins. Refused as `TooManyCommands` where as many as are taken were begun.
-    pub fn begin(&mut self) -> Result<(), Stop<Kind>>
-        ensures { Meets result (λ given. Begins self.old given self.new) }
+    pub fn begin(&mut self) -> Result<(), Kind>
+        ensures { Begins self.old result self.new }
     {
         if self.begun >= MOST_COMMANDS {
-            return Err(refuse(TclKind::TooManyCommands));
+            return Err(Kind::Tcl(TclKind::TooManyCommands));
         }
         self.begun += 1;
         Ok(())

@@ -5,7 +5,6 @@ ghost use Rattle.sdc_base.specs.Gives.{Gives, Meets};
 ghost use Rattle.sdc_model.specs.ExpressionValue as scalars;
 ghost use Rattle.sdc_model.specs.HostCalls.{text_in};
 ghost use Rattle.sdc_model.specs.NamedCommands.{spaced as spaced_of};
-ghost use Rattle.sdc_model.specs.Turns.{tcl_outcome};
 ghost use Rattle.source_types.specs.declared.expressions.Scalar.TheVariants as scalar;
 ghost use Rattle.timing_types.specs.declared.objects.Value.TheVariants as value;
 ghost use Rattle.tcl_eval.specs.ScriptReads.{CommandWithin, Parts};
@@ -14,7 +13,7 @@ use crate::command_reader::CommandReader;
 use crate::faults::tcl_answer;
 use crate::hosts::Commands;
 use crate::texts::{into_text, spaced, text_values};
-use crate::values::{text_of, truth_of};
+use crate::values::text_of;
 use sdc_base::{At, List, NoMemory, Stop, Text};
 use sdc_model::{Command, Kind, Scalar, Value};
 use std::alloc::Global;
@@ -61,17 +60,6 @@ pub fn as_value(alloc: Global, scalar: &Scalar) -> Result<Value, Stop<Kind>>
 {
     let text = text_of(alloc, scalar)?;
     Ok(Value::Text(text))
-}
-
-/// Whether a condition holds, by the value of its expression. Refused as `BadExpr` where it is no number, as `Number`
-/// where it is out of range.
-pub fn truth(scalar: &Scalar) -> Result<bool, Stop<Kind>>
-    ensures { Gives result (tcl_outcome (scalars.truth_of scalar.now)) }
-{
-    match truth_of(scalar) {
-        Ok(truth) => Ok(truth),
-        Err(kind) => Err(Stop::Refused(Kind::Tcl(kind))),
-    }
 }
 
 /// Adds the text of a word to the values of an expression. The one error is want of memory.

@@ -21,9 +21,10 @@ use crate::list_values::item_values;
 use crate::names::command_name;
 use crate::parsing::parse_expression;
 use crate::progress::{Level, Progress};
-use crate::run_steps::{as_value, expression_text, next_within, push_text, split_name, truth};
+use crate::run_steps::{as_value, expression_text, next_within, push_text, split_name};
 use crate::steps::{last_value, passing, take_binary, take_decision, take_number, take_unary};
 use crate::texts::{add_text, into_text, no_text, text_value, text_values};
+use crate::values::truth_of;
 use sdc_base::{Duplicate, List, Stop, Text};
 use sdc_model::{
     Branch, Branches, Command, CommandName, ExpressionStep, Kind, Part, Scalar, TclKind, Value,
@@ -66,7 +67,7 @@ pub fn run_command<H: Commands>(
 ) -> Result<Value, Stop<Kind>>
     ensures { Does (RunsCommand (level_of H.host level) command.now) (world run.old (H.state host.old)) result (world run.new (H.state host.new)) }
 {
-    run.begin()?;
+    run.begin().map_err(Stop::Refused)?;
     let mut values = Vec::new(alloc);
     for word in command.words.as_slice() {
         let value = run_word(alloc, level, host, run, 0, word.parts.as_slice())?;
@@ -222,7 +223,8 @@ fn run_first<H: Commands>(
 {
     for branch in branches {
         let result = evaluate(alloc, level, host, run, &branch.condition)?;
-        if truth(&result)? {
+        let holds = truth_of(&result).map_err(refuse)?;
+        if holds {
             return run_body(alloc, level, host, run, branch.body.as_str());
         }
     }
@@ -253,7 +255,7 @@ fn evaluate<H: Commands>(
     for step in expression.steps.as_slice() {
         passed = run_step(alloc, level, host, run, &mut values, passed, step)?;
     }
-    tcl_answer(last_value(values))
+    last_value(values).map_err(refuse)
 }
 
 /// Runs a step of an expression over the values so far, or passes over it; says of how many operators the steps are

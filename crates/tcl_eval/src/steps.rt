@@ -1,7 +1,7 @@
 //! Steps of a parsed expression that run nothing, over the values so far.
 
 ghost use Rattle.std.specs.Prelude.{◌≡◌, ◌<◌, reverse};
-ghost use Rattle.sdc_base.specs.Gives.{Gives, Meets};
+ghost use Rattle.sdc_base.specs.Gives.{Meets};
 ghost use Rattle.source_types.specs.declared.expressions.ExpressionStep.TheVariants as step;
 ghost use Rattle.tcl_eval.specs.StepsRun.{Takes, TakesValue, ended, passing as passing_of};
 
@@ -120,15 +120,15 @@ pub fn take_binary(
 }
 
 /// The value that the steps of an expression leave. Refused as `BadExpr` where they leave none or several.
-pub fn last_value(values: Vec<Scalar>) -> Result<Scalar, Stop<TclKind>>
-    ensures { Gives result (ended (reverse values.items)) }
+pub fn last_value(values: Vec<Scalar>) -> Result<Scalar, TclKind>
+    ensures { result ≡ ended (reverse values.items) }
 {
     let mut values = values;
     let Some(value) = values.pop() else {
-        return Err(Stop::Refused(TclKind::BadExpr));
+        return Err(TclKind::BadExpr);
     };
     if !values.is_empty() {
-        return Err(Stop::Refused(TclKind::BadExpr));
+        return Err(TclKind::BadExpr);
     }
     Ok(value)
 }

@@ -77,9 +77,9 @@ fn begun_at(alloc: Global, text: &str, at: usize) -> Result<Lexed, Stop<TclKind>
         return word(script_operand(alloc, text, at));
     }
     if byte.is_ascii_digit() || byte == b'.' {
-        return number_at(text, at);
+        return number_at(text, at).map_err(Stop::Refused);
     }
-    operator_at(text.as_bytes(), at)
+    operator_at(text.as_bytes(), at).map_err(Stop::Refused)
 }
 
 /// The token of a word.

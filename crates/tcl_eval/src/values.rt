@@ -1,12 +1,11 @@
 //! Values of an expression: numbers, texts and truth (Tcl).
 
 ghost use Rattle.std.specs.Prelude.{◌≡◌, IfOk};
-ghost use Rattle.sdc_base.specs.Gives.{Gives};
 ghost use Rattle.sdc_base.specs.Number.{read_number};
 ghost use Rattle.sdc_model.specs.ExpressionValue as spec;
 ghost use Rattle.tcl_eval.specs.Values.{both_numbers};
 
-use sdc_base::{Duplicate, Fixed, NoMemory, NumberError, Stop, Text};
+use sdc_base::{Duplicate, Fixed, NoMemory, NumberError, Text};
 use sdc_model::{Scalar, TclKind};
 use std::alloc::Global;
 
@@ -114,15 +113,5 @@ pub fn computed(number: Result<Fixed, NumberError>) -> Result<Scalar, TclKind>
     match number {
         Ok(number) => Ok(Scalar::Number(number)),
         Err(error) => Err(TclKind::Number(error)),
-    }
-}
-
-/// A refusal beside want of memory.
-pub fn refused(outcome: Result<Scalar, TclKind>) -> Result<Scalar, Stop<TclKind>>
-    ensures { Gives result outcome }
-{
-    match outcome {
-        Ok(value) => Ok(value),
-        Err(kind) => Err(Stop::Refused(kind)),
     }
 }

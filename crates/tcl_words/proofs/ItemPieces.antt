@@ -4,8 +4,6 @@ use Rattle.std.proofs.lemmas.Bool.{both_ways}
 use Rattle.std.proofs.lemmas.Bool.Decides.{nat_tests}
 use Rattle.std.proofs.lemmas.List.{drop_more}
 use Rattle.std.specs.Str.{IsCharBoundary}
-use Rattle.sdc_base.specs.Gives.{Meets}
-use Rattle.sdc_base.specs.declared.memory.Stop.{Stop}
 use Rattle.source_types.specs.declared.kinds.TclKind.{TclKind}
 use Rattle.sdc_model.specs.Bytes.{behind}
 use Rattle.sdc_model.specs.ListItems.{ends_item, item_piece_at}
@@ -51,8 +49,8 @@ ends_both Bare b p = grind (arith, nat_tests)
 
 -- ---- what stands at a place
 
-pub at_none : (form : Form) (text : List ℕ) (at : ℕ) (r : Result Step (Stop TclKind)) → at ≡ length text → Meets r (StepAt (grammar.at_text_end (form_of form)) text at) → Meets r (StepAt (item_piece_at (form_of form) (drop at text)) text at)
-at_none form text at r e m = subst (λ (f : grammar.PieceFront). Meets r (StepAt f text at)) (sym (item_none (form_of form) text at e)) m
+pub at_none : (form : Form) (text : List ℕ) (at : ℕ) (r : Result Step TclKind) → at ≡ length text → StepAt (grammar.at_text_end (form_of form)) text at r → StepAt (item_piece_at (form_of form) (drop at text)) text at r
+at_none form text at r e m = subst (λ (f : grammar.PieceFront). StepAt f text at r) (sym (item_none (form_of form) text at e)) m
 
 pub at_end : (form : Form) (text : List ℕ) (at to : ℕ) → at < length text → ends_item (form_of form) (get_or text at 0) ≡ true → to ≡ end_of form at → StepAt (item_piece_at (form_of form) (drop at text)) text at (Ok (Ends to))
 at_end form text at to within p e =

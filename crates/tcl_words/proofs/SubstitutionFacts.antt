@@ -5,8 +5,6 @@ use Rattle.std.proofs.lemmas.Bool.Decides.{nat_tests}
 use Rattle.std.proofs.lemmas.List.{drop_more, length-drop}
 use Rattle.std.proofs.lemmas.Str.{IsCharBoundary-after_ascii}
 use Rattle.std.specs.Str.{IsCharBoundary}
-use Rattle.sdc_base.specs.Gives.{Meets}
-use Rattle.sdc_base.specs.declared.memory.Stop.{Stop}
 use Rattle.source_types.specs.declared.commands.Part.TheVariants as part
 use Rattle.source_types.specs.declared.kinds.TclKind.{TclKind}
 use Rattle.source_types.specs.declared.kinds.TclKind.TheVariants.{BadWord, Unclosed}
@@ -33,9 +31,9 @@ dollar_is text at to leads =
     ap (λ (t : List ℕ). grammar.behind_dollar t (behind is_name_byte (drop (at + 1) text))) (front_between is_name_byte text (at + 1) to leads)
     ∙ ap (grammar.behind_dollar (between text (at + 1) to)) leads.is
 
-pub dollar_plain : (text : List ℕ) (at to : ℕ) (r : Result Step (Stop TclKind)) → LeadsTo text (at + 1) to (behind is_name_byte (drop (at + 1) text)) → to ≡ at + 1 → Meets r (StepAt (grammar.plain_dollar (drop (at + 1) text)) text at) → Meets r (StepAt (dollar_front text at) text at)
+pub dollar_plain : (text : List ℕ) (at to : ℕ) (r : Result Step TclKind) → LeadsTo text (at + 1) to (behind is_name_byte (drop (at + 1) text)) → to ≡ at + 1 → StepAt (grammar.plain_dollar (drop (at + 1) text)) text at r → StepAt (dollar_front text at) text at r
 dollar_plain text at to r leads e m =
-    subst (λ (f : grammar.PieceFront). Meets r (StepAt f text at))
+    subst (λ (f : grammar.PieceFront). StepAt f text at r)
     (sym (dollar_is text at to leads ∙ (ap (λ (i : ℕ). grammar.behind_dollar (between text (at + 1) i) (drop i text)) e ∙ ap (λ (t : List ℕ). grammar.behind_dollar t (drop (at + 1) text)) (between_none text (at + 1))))) m
 
 named : (b : ℕ) (bs rest : List ℕ) → begins_with 40 rest ≡ false → grammar.behind_dollar (b ∷ bs) rest ≡ found (grammar.other (part.Variable (b ∷ bs))) rest

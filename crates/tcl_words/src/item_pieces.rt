@@ -2,7 +2,6 @@
 
 ghost use Rattle.std.specs.Prelude.{◌≡◌, ◌≤◌, ◌++◌, length, drop, OnOk};
 ghost use Rattle.std.specs.Str.{IsCharBoundary};
-ghost use Rattle.sdc_base.specs.Gives.{Meets};
 ghost use Rattle.sdc_model.specs.ListItems as grammar;
 ghost use Rattle.tcl_words.specs.Forms.{form_of};
 ghost use Rattle.tcl_words.specs.Steps.{piece_of, StepAt};
@@ -10,7 +9,7 @@ ghost use Rattle.tcl_words.specs.Steps.{piece_of, StepAt};
 use crate::item_gaps::parts_items;
 use crate::pieces::{Kind, Piece, Step, behind_backslash, itself, text_end, word_end};
 use crate::runs::{Form, Run, run_end};
-use sdc_base::{NoMemory, Stop, Text};
+use sdc_base::{NoMemory, Text};
 use sdc_model::TclKind;
 
 /// Whether a byte ends an item of a form.
@@ -26,9 +25,9 @@ fn ends_item(form: Form, byte: u8) -> bool
 
 /// What stands at a place of an item of a form. Refused as `Unclosed` where a quote has no end.
 #[tactic(auto, using(crate::proofs::ItemPieces::at_none, crate::proofs::ItemPieces::at_end, crate::proofs::ItemPieces::at_backslash, crate::proofs::ItemPieces::at_run))]
-pub fn item_piece_at(bytes: &[u8], at: usize, form: Form) -> Result<Step, Stop<TclKind>>
+pub fn item_piece_at(bytes: &[u8], at: usize, form: Form) -> Result<Step, TclKind>
     requires { at ≤ length bytes.now }
-    ensures { Meets result (StepAt (grammar.item_piece_at (form_of form) (drop at bytes.now)) bytes.now at) }
+    ensures { StepAt (grammar.item_piece_at (form_of form) (drop at bytes.now)) bytes.now at result }
 {
     if at == bytes.len() {
         return text_end(bytes, at, form);

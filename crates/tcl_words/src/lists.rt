@@ -34,7 +34,7 @@ fn pieces_at(alloc: Global, text: &str, from: usize, form: Form) -> Result<Item,
     let mut item = Text::new(alloc);
     let mut at = from;
     loop {
-        match item_piece_at(bytes, at, form)? {
+        match item_piece_at(bytes, at, form).map_err(Stop::Refused)? {
             Step::Ends(end) => return Ok(Item { text: item, end }),
             Step::Found(piece) => {
                 add_piece(&mut item, text, piece)?;

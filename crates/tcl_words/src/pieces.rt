@@ -79,7 +79,7 @@ pub fn piece_at(alloc: Global, bytes: &[u8], at: usize, form: Form) -> Result<St
     ensures { Meets result (StepAt (grammar.piece_at (form_of form) (drop at bytes.now)) bytes.now at) }
 {
     if at == bytes.len() {
-        return text_end(bytes, at, form);
+        return text_end(bytes, at, form).map_err(Stop::Refused);
     }
     let byte = bytes[at];
     if form.ends(byte) {
@@ -94,14 +94,14 @@ pub fn piece_at(alloc: Global, bytes: &[u8], at: usize, form: Form) -> Result<St
     Ok(itself(at, run_end(bytes, at + 1, Run::Plain(form))))
 }
 
-/// The end of a word at the end of the text, where it needs no closing quote.
+/// The end of a word at the end of the text. Refused as `Unclosed` where it needs a closing quote.
 #[tactic(auto, using(crate::proofs::PieceFacts::text_ends))]
-pub fn text_end(bytes: &[u8], at: usize, form: Form) -> Result<Step, Stop<TclKind>>
+pub fn text_end(bytes: &[u8], at: usize, form: Form) -> Result<Step, TclKind>
     requires { at ≡ length bytes.now }
-    ensures { Meets result (StepAt (grammar.at_text_end (form_of form)) bytes.now at) }
+    ensures { StepAt (grammar.at_text_end (form_of form)) bytes.now at result }
 {
     match form {
-        Form::Quoted => Err(Stop::Refused(TclKind::Unclosed)),
+        Form::Quoted => Err(TclKind::Unclosed),
         Form::Braced => Ok(Step::Ends(at)),
         Form::Bare => Ok(Step::Ends(at)),
     }

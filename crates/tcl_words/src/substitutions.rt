@@ -22,24 +22,24 @@ pub fn substituted(alloc: Global, bytes: &[u8], at: usize) -> Result<Step, Stop<
     ensures { Meets result (StepAt (grammar.substituted (slice_index bytes.now at) (drop (at + 1) bytes.now)) bytes.now at) }
 {
     if bytes[at] == b'$' {
-        return variable(bytes, at);
+        return variable(bytes, at).map_err(Stop::Refused);
     }
     script(alloc, bytes, at)
 }
 
 /// What stands at the place of a `$`.
 #[tactic(auto, using(crate::proofs::SubstitutionFacts::dollar_plain, crate::proofs::SubstitutionFacts::dollar_element, crate::proofs::SubstitutionFacts::dollar_named))]
-fn variable(bytes: &[u8], at: usize) -> Result<Step, Stop<TclKind>>
+fn variable(bytes: &[u8], at: usize) -> Result<Step, TclKind>
     requires within { at < length bytes.now }
     requires dollar { slice_index bytes.now at ≡ 36 }
-    ensures { Meets result (StepAt (grammar.behind_dollar (front is_name_byte (drop (at + 1) bytes.now)) (behind is_name_byte (drop (at + 1) bytes.now))) bytes.now at) }
+    ensures { StepAt (grammar.behind_dollar (front is_name_byte (drop (at + 1) bytes.now)) (behind is_name_byte (drop (at + 1) bytes.now))) bytes.now at result }
 {
     let end = run_end(bytes, at + 1, Run::Name);
     if end == at + 1 {
         return plain_dollar(bytes, at);
     }
     if stands_at(bytes, end, b'(') {
-        return Err(Stop::Refused(TclKind::BadWord));
+        return Err(TclKind::BadWord);
     }
     Ok(Step::Found(Piece {
         kind: Kind::Variable,
@@ -51,10 +51,10 @@ fn variable(bytes: &[u8], at: usize) -> Result<Step, Stop<TclKind>>
 
 /// What stands at the place of a `$` that no name follows: `{` opens one, and else `$` is itself.
 #[tactic(auto, using(crate::proofs::SubstitutionFacts::plain_itself, crate::proofs::SubstitutionFacts::name_unclosed, crate::proofs::SubstitutionFacts::name_closed))]
-fn plain_dollar(bytes: &[u8], at: usize) -> Result<Step, Stop<TclKind>>
+fn plain_dollar(bytes: &[u8], at: usize) -> Result<Step, TclKind>
     requires within { at < length bytes.now }
     requires dollar { slice_index bytes.now at ≡ 36 }
-    ensures { Meets result (StepAt (grammar.plain_dollar (drop (at + 1) bytes.now)) bytes.now at) }
+    ensures { StepAt (grammar.plain_dollar (drop (at + 1) bytes.now)) bytes.now at result }
 {
     if stands_at(bytes, at + 1, b'{') {
         return braced_variable(bytes, at);
@@ -64,14 +64,14 @@ fn plain_dollar(bytes: &[u8], at: usize) -> Result<Step, Stop<TclKind>>
 
 /// The variable whose name stands in braces behind the place of a `$`.
 #[tactic(auto, using(crate::proofs::SubstitutionFacts::name_unclosed, crate::proofs::SubstitutionFacts::brace_at))]
-fn braced_variable(bytes: &[u8], at: usize) -> Result<Step, Stop<TclKind>>
+fn braced_variable(bytes: &[u8], at: usize) -> Result<Step, TclKind>
     requires within { at < length bytes.now }
     requires opens { begins_with 123 (drop (at + 1) bytes.now) ≡ true }
-    ensures { Meets result (StepAt (grammar.plain_dollar (drop (at + 1) bytes.now)) bytes.now at) }
+    ensures { StepAt (grammar.plain_dollar (drop (at + 1) bytes.now)) bytes.now at result }
 {
     let end = run_end(bytes, at + 2, Run::BeforeBrace);
     if end == bytes.len() {
-        return Err(Stop::Refused(TclKind::Unclosed));
+        return Err(TclKind::Unclosed);
     }
     Ok(Step::Found(Piece {
         kind: Kind::Variable,

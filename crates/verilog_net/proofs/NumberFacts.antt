@@ -1,12 +1,18 @@
 -- Numbers digit by digit, up to 32 bits.
-use Rattle.std.proofs.Common.{◌≡◌, ◌∙◌, ◌+◌, ◌-◌, ◌*◌, ◌<◌, ◌≤◌, ◌==◌, ◌∷◌, ℕ, Bool, true, false, List, [], None, Some, drop, get_or, length, nat_le, refl, sym, ap, arith, if◌then◌else◌}
+use Rattle.std.proofs.Common.{◌≡◌, ◌∙◌, ◌+◌, ◌-◌, ◌*◌, ◌<◌, ◌≤◌, ◌==◌, ◌∷◌, ℕ, Bool, true, false, not, List, [], None, Some, drop, get_or, length, nat_le, refl, sym, ap, arith, if◌then◌else◌}
 use Rattle.std.specs.Prelude.{◌&&◌}
 use Rattle.std.proofs.lemmas.Bool.Decides.{nat_tests}
 use Rattle.std.proofs.lemmas.List.{at_drop_more}
+use Rattle.std.proofs.lemmas.List.Folds.{list_any_at}
+use Rattle.std.specs.List.{list_any}
 use Rattle.sdc_base.proofs.CaseFacts.{by_bool}
 use Rattle.source_types.specs.declared.verilog_tokens.VerilogToken.{VerilogToken}
 use Rattle.source_types.specs.declared.verilog_tokens.VerilogToken.TheVariants as kind
 use Rattle.sdc_model.specs.VerilogConstants as grammar
+use Rattle.sdc_model.specs.VerilogSyntax as syntax
+use Rattle.verilog_net.specs.declared.tokens.Token.{Token}
+use Rattle.verilog_net.specs.Seen.{token_seen}
+use Rattle.verilog_net.specs.Syntax.{is_long, is_long_bound}
 
 next_no_less : (n b : ℕ) → n ≤ grammar.next_number n b
 next_no_less n b = by_bool (λ t. n ≤ (if t then n else (n * 10) + (b - 48))) (b == 95) (λ is. omega arith) (λ is. omega arith)
@@ -58,3 +64,13 @@ pub some_kind : (digits : List ℕ) (n : ℕ) (k : VerilogToken) → Some n ≡ 
 some_kind digits n k is all =
     let found = found_small n (grammar.number_of digits) (nat_le (grammar.number_of digits) 4294967295) is in
     all ∙ ap (λ (m : ℕ). if grammar.leads_nonzero digits && nat_le 1 m && nat_le m 64 then kind.Size else (if nat_le m 999999 then kind.Number else kind.LargeNumber)) found.1
+
+-- ---- numbers that pass 32 bits
+
+pub long_number : (token : Token) → None ≡ (if nat_le (grammar.number_of token.text.now) 4294967295 then Some (grammar.number_of token.text.now) else None) → is_long token ≡ true
+long_number token is = ap not (found_none (grammar.number_of token.text.now) (nat_le (grammar.number_of token.text.now) 4294967295) is)
+
+pub long_bound_at : (tokens : List Token) (i : ℕ) (d : Token) → i < length tokens → syntax.is_bound (token_seen (get_or tokens i d)) ≡ true → is_long (get_or tokens i d) ≡ true → list_any is_long_bound tokens ≡ true
+long_bound_at tokens i d inside bound long =
+    let both : is_long_bound (get_or tokens i d) ≡ true = rw (bound, long) refl in
+    list_any_at is_long_bound tokens i d inside both

@@ -1,8 +1,9 @@
 -- What is used of nets: indices, and numbers of bits.
-use Rattle.std.proofs.Common.{◌≡◌, ◌∙◌, ◌+◌, ◌-◌, ◌/◌, ◌%◌, ◌<◌, ◌≤◌, ◌==◌, ◌++◌, ◌∷◌, ℕ, zero, suc, Bool, true, false, List, [], Option, None, Some, drop, get_or, length, nat_le, refl, sym, ap, arith, length-append}
+use Rattle.std.proofs.Common.{◌≡◌, ◌∙◌, ◌+◌, ◌-◌, ◌/◌, ◌%◌, ◌<◌, ◌≤◌, ◌^◌, ◌⊎◌, ◌==◌, ◌++◌, ◌∷◌, ℕ, zero, suc, Bool, true, false, List, [], Option, None, Some, OnErr, Result, Ok, Err, drop, get_or, length, nat_le, refl, sym, ap, arith, inl, inr, length-append}
 use Rattle.std.specs.Prelude.{◌||◌, ◌&&◌, if◌then◌else◌}
 use Rattle.std.proofs.lemmas.Bool.Decides.{nat_tests}
 use Rattle.std.proofs.lemmas.List.{drop_all, drop_more, length-drop, length-map}
+use Rattle.std.proofs.lemmas.List.Folds.{list_any_at}
 use Rattle.std.proofs.lemmas.Grind.{flat_map-append}
 use Rattle.std.specs.List.{flat_map, repeat}
 use Rattle.std.specs.Option.{is_some, option_to_list}
@@ -20,7 +21,7 @@ use Rattle.verilog_net.specs.declared.tokens.Token.{Token}
 use Rattle.verilog_net.specs.declared.names.Names.{Names}
 use Rattle.verilog_net.specs.declared.pieces.Piece.{Piece}
 use Rattle.verilog_net.specs.declared.pieces.Piece.TheVariants as piece
-use Rattle.verilog_net.specs.Names.{declarations_of, len_of}
+use Rattle.verilog_net.specs.Names.{AreOverlong, declarations_of, has_long, len_of}
 use Rattle.verilog_net.specs.Seen.{token_seen, tokens_seen}
 use Rattle.verilog_net.specs.Syntax.{piece_seen, pieces_seen}
 use Rattle.verilog_net.proofs.NumberFacts.{found_none, found_small}
@@ -135,3 +136,23 @@ pub len_all : (names : Names) (all : List Piece) (i n total : ℕ) → length al
 len_all names all i n total end so_far =
     let none : length (nets.bits_of (declarations_of names) (pieces_seen (drop i all))) ≡ 0 = ap (λ (ps : List Piece). length (nets.bits_of (declarations_of names) (pieces_seen ps))) (drop_all i all end) in
     omega (arith, none, so_far)
+
+-- ---- numbers of bits that are not told
+
+pub long_piece_at : (names : Names) (all : List Piece) (i : ℕ) (d : Piece) → i < length all → has_long (get_or all i d) ≡ true → AreOverlong names all
+long_piece_at names all i d inside long = inl (list_any_at has_long all i d inside long)
+
+-- the sum of the numbers of bits so far and of a piece is too large, where a call answers so
+pub overlong_sum : {T E : Type 0} (r : Result T E) (names : Names) (all : List Piece) (i n m : ℕ) (d : Piece) → i < length all → m ≡ len_of names (get_or all i d) → 2 ^ 64 ≤ n + m
+    → n + length (nets.bits_of (declarations_of names) (pieces_seen (drop i all))) ≡ length (nets.bits_of (declarations_of names) (pieces_seen all)) → OnErr r (AreOverlong names all)
+overlong_sum (Ok x) names all i n m d inside len past so_far = tt
+overlong_sum (Err e) names all i n m d inside len past so_far =
+    let more = len_more names all i n m (n + m) (length (nets.bits_of (declarations_of names) (pieces_seen all))) d inside len refl so_far in
+    let total : 2 ^ 64 ≤ length (nets.bits_of (declarations_of names) (pieces_seen all)) = omega (arith, past, more) in
+    inr total
+
+pub overlong_left : (names : Names) (left right : List Piece) → AreOverlong names left → AreOverlong names left ⊎ AreOverlong names right
+overlong_left names left right long = inl long
+
+pub overlong_right : (names : Names) (left right : List Piece) → AreOverlong names right → AreOverlong names left ⊎ AreOverlong names right
+overlong_right names left right long = inr long

@@ -1,10 +1,11 @@
 -- The reader's declarations of a module, each found by its name. This project's own.
-use Rattle.std.specs.Prelude.{◌≡◌, ◌&&◌, ℕ, List, [], ◌∷◌, Option, Some, None, String, map, not, if◌then◌else◌}
+use Rattle.std.specs.Prelude.{◌≡◌, ◌≤◌, ◌^◌, ◌&&◌, ◌||◌, ◌⊎◌, ℕ, Bool, true, false, length, List, [], ◌∷◌, Option, Some, None, String, map, not, if◌then◌else◌}
+use Rattle.std.specs.List.{list_any}
 use Rattle.std.specs.Option.{option_map}
 use Rattle.indexmap.specs.IndexMap.{IndexMap, get_by_text}
 use Rattle.sdc_model.specs.Ranges.{span, width}
 use Rattle.sdc_model.specs.VerilogConstants.{number_of}
-use Rattle.sdc_model.specs.VerilogNets.{declaration_of, is_of, is_port, range_named}
+use Rattle.sdc_model.specs.VerilogNets.{bits_of, declaration_of, is_of, is_port, range_named}
 use Rattle.sdc_model.specs.VerilogStatements.{Written, declarations}
 use Rattle.sdc_model.specs.VerilogSyntax as grammar
 use Rattle.verilog_net.specs.declared.declarations.Declared.{Declared}
@@ -13,7 +14,7 @@ use Rattle.verilog_net.specs.declared.names.Names.{Names}
 use Rattle.verilog_net.specs.declared.pieces.Piece.{Piece}
 use Rattle.verilog_net.specs.declared.pieces.Piece.TheVariants as piece
 use Rattle.verilog_net.specs.Modules.{written_seen}
-use Rattle.verilog_net.specs.Syntax.{declared_seen, declareds_seen}
+use Rattle.verilog_net.specs.Syntax.{declared_seen, declareds_seen, is_long, pieces_seen}
 
 abbrev pub declarations_of : Names → List grammar.Declared
 declarations_of names = declareds_seen names.declared.items
@@ -53,6 +54,17 @@ len_of names (piece.Whole name) = width (range_named (declarations_of names) nam
 len_of names (piece.Bit name index) = 1
 len_of names (piece.Part name left right) = span (number_of left.text.now) (number_of right.text.now)
 len_of names (piece.Constant size base digits) = number_of size.text.now
+
+-- one of the numbers that give a piece its number of bits passes 32 bits
+abbrev pub has_long : Piece → Bool
+has_long (piece.Whole name) = false
+has_long (piece.Bit name index) = false
+has_long (piece.Part name left right) = is_long left || is_long right
+has_long (piece.Constant size base digits) = is_long size
+
+-- so does a number of pieces, or their number of bits passes 64 bits
+abbrev pub AreOverlong : Names → List Piece → Type 0
+AreOverlong names pieces = (list_any has_long pieces ≡ true) ⊎ (2 ^ 64 ≤ length (bits_of (declarations_of names) (pieces_seen pieces)))
 
 -- ---- modules
 

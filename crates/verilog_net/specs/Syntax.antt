@@ -1,6 +1,6 @@
 -- What the reader's tokens declare and connect, as the definitions have it. This project's own. Each function says for
 -- a value of the code what it is there.
-use Rattle.std.specs.Prelude.{ℕ, Bool, not, List, [], ◌∷◌, Option, Some, None, map}
+use Rattle.std.specs.Prelude.{◌&&◌, ℕ, Bool, not, List, [], ◌∷◌, Option, Some, None, map, nat_le}
 use Rattle.std.specs.List.{prefix_len}
 use denote.Ref.{Bor}
 use Rattle.source_types.specs.declared.netlists.Range.{Range}
@@ -41,6 +41,16 @@ abbrev pub range_behind : Option ℕ → List lexical.Token → Option Range
 range_behind None tokens = grammar.range_of tokens
 range_behind (Some left) [] = None
 range_behind (Some left) (right ∷ tokens) = Some (record { left = left; right = number_of right.text })
+
+-- ---- numbers
+
+-- the number of a token passes 32 bits
+abbrev pub is_long : Token → Bool
+is_long token = not (nat_le (number_of token.text.now) 4294967295)
+
+-- it is one that a range may have
+abbrev pub is_long_bound : Token → Bool
+is_long_bound token = grammar.is_bound (token_seen token) && is_long token
 
 -- ---- parts
 

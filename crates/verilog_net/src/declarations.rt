@@ -2,7 +2,7 @@
 //!
 //! Each function here that may fail has want of memory as its one error.
 
-ghost use Rattle.std.specs.Prelude.{◌≡◌, ◌≤◌, ◌++◌, ◌∷◌, [], length, map, IfOk, OnOk, if◌then◌else◌};
+ghost use Rattle.std.specs.Prelude.{◌≡◌, ◌≤◌, ◌++◌, ◌∷◌, [], length, map, true, IfOk, OnErr, OnOk, if◌then◌else◌};
 ghost use Rattle.std.specs.List.{before_first, filter, list_any, prefix_len};
 ghost use Rattle.std.specs.Option.{option_map};
 ghost use Rattle.source_types.specs.declared.verilog_tokens.VerilogToken.TheVariants as kind;
@@ -10,7 +10,7 @@ ghost use Rattle.sdc_model.specs.VerilogConstants as digits;
 ghost use Rattle.sdc_model.specs.VerilogSyntax as grammar;
 ghost use Rattle.sdc_model.specs.VerilogTokens as lexical;
 ghost use Rattle.verilog_net.specs.Seen.{token_seen, tokens_seen};
-ghost use Rattle.verilog_net.specs.Syntax.{declareds_seen, directions_len, is_direction_seen, role_seen};
+ghost use Rattle.verilog_net.specs.Syntax.{declareds_seen, directions_len, is_direction_seen, is_long, is_long_bound, role_seen};
 
 use crate::kind_numbers::same_kind;
 use crate::numbers::number_of;
@@ -77,10 +77,12 @@ fn is_bound(token: &Token<'_>) -> bool
 
 /// The number that a token spells.
 ///
-/// The grammar has none above 999,999 where this is asked for, so that 32 bits hold it; one that passed them would
-/// count as want of memory.
+/// The grammar has none above 999,999 where this is asked for, so that 32 bits hold it. No memory is taken: the one
+/// error, want of memory, is the answer where the number passes them, and nowhere else.
+#[tactic(auto, using(crate::proofs::NumberFacts::long_number))]
 pub fn number(token: &Token<'_>) -> Result<u32, NoMemory>
-    ensures { IfOk result (λ number. number ≡ digits.number_of token.now.text.now) }
+    ensures is { IfOk result (λ number. number ≡ digits.number_of token.now.text.now) }
+    ensures limit { OnErr result (is_long token.now ≡ true) }
 {
     match number_of(token.text.as_bytes()) {
         Some(number) => Ok(number),
@@ -88,9 +90,12 @@ pub fn number(token: &Token<'_>) -> Result<u32, NoMemory>
     }
 }
 
-/// The range of a declaration: its first two numbers, or `None` where there are none.
+/// The range of a declaration: its first two numbers, or `None` where there are none. The one error is the answer
+/// where a number passes 32 bits.
+#[tactic(auto, using(crate::proofs::NumberFacts::long_bound_at))]
 fn range_of(tokens: &[Token<'_>]) -> Result<Option<Range>, NoMemory>
-    ensures { IfOk result (λ range. range ≡ grammar.range_of (filter grammar.is_bound (tokens_seen tokens.now))) }
+    ensures is { IfOk result (λ range. range ≡ grammar.range_of (filter grammar.is_bound (tokens_seen tokens.now))) }
+    ensures limit { OnErr result (list_any is_long_bound tokens.now ≡ true) }
 {
     let mut left = None;
     for token in tokens {

@@ -2,7 +2,7 @@
 //!
 //! Each function here that may fail has want of memory as its one error.
 
-ghost use Rattle.std.specs.Prelude.{◌≡◌, ◌++◌, ◌==◌, ◌&&◌, ◌+◌, ◌∷◌, [], length, map, not, nat_le, IfOk, OnOk, if◌then◌else◌};
+ghost use Rattle.std.specs.Prelude.{◌≡◌, ◌≤◌, ◌++◌, ◌==◌, ◌&&◌, ◌+◌, ◌^◌, ◌⊎◌, ◌∷◌, [], length, map, not, nat_le, true, IfOk, OnErr, OnOk, if◌then◌else◌};
 ghost use Rattle.std.specs.List.{flat_map, list_any};
 ghost use Rattle.std.specs.Option.{option_to_list};
 ghost use Rattle.sdc_model.specs.VerilogConstants as constants;
@@ -10,7 +10,7 @@ ghost use Rattle.sdc_model.specs.Verilog as spec;
 ghost use Rattle.sdc_model.specs.VerilogNets as nets;
 ghost use Rattle.sdc_model.specs.VerilogStatements as grammar;
 ghost use Rattle.sdc_model.specs.VerilogSyntax.{parts_of as parts_of_tokens};
-ghost use Rattle.verilog_net.specs.Names.{IsTied, declarations_of, len_of};
+ghost use Rattle.verilog_net.specs.Names.{AreOverlong, IsTied, declarations_of, has_long, len_of};
 ghost use Rattle.verilog_net.specs.Seen.{token_seen, tokens_seen};
 ghost use Rattle.verilog_net.specs.Syntax.{parts_seen, piece_seen, pieces_seen};
 
@@ -151,10 +151,11 @@ pub fn undeclared<'a>(
     Ok(found)
 }
 
-/// The number of bits of a piece.
+/// The number of bits of a piece. The one error is the answer where a number of the piece passes 32 bits.
 fn piece_len<'a>(names: &Names<'a>, piece: &Piece<'a>) -> Result<u64, NoMemory>
     requires { IsTied names.now }
-    ensures { IfOk result (λ len. len ≡ len_of names.now piece.now) }
+    ensures is { IfOk result (λ len. len ≡ len_of names.now piece.now) }
+    ensures limit { OnErr result (has_long piece.now ≡ true) }
 {
     match piece {
         Piece::Whole(name) => Ok(width(names.range(name.text))),
@@ -171,9 +172,10 @@ fn piece_len<'a>(names: &Names<'a>, piece: &Piece<'a>) -> Result<u64, NoMemory>
     }
 }
 
-/// The sum of two numbers of bits.
+/// The sum of two numbers of bits. The one error is the answer where it passes 64 bits.
 fn sum(first: u64, second: u64) -> Result<u64, NoMemory>
-    ensures { IfOk result (λ sum. sum ≡ first + second) }
+    ensures is { IfOk result (λ sum. sum ≡ first + second) }
+    ensures limit { OnErr result (2 ^ 64 ≤ first + second) }
 {
     match first.checked_add(second) {
         Some(sum) => Ok(sum),
@@ -181,11 +183,13 @@ fn sum(first: u64, second: u64) -> Result<u64, NoMemory>
     }
 }
 
-/// The number of bits of pieces.
-#[tactic(auto, using(crate::proofs::UseFacts::len_all))]
+/// The number of bits of pieces. The one error is the answer where a number of a piece passes 32 bits, or the number
+/// of bits 64.
+#[tactic(auto, using(crate::proofs::UseFacts::len_all, crate::proofs::UseFacts::long_piece_at))]
 fn bits_len<'a>(names: &Names<'a>, pieces: &[Piece<'a>]) -> Result<u64, NoMemory>
     requires { IsTied names.now }
-    ensures { IfOk result (λ len. len ≡ length (nets.bits_of (declarations_of names.now) (pieces_seen pieces.now))) }
+    ensures is { IfOk result (λ len. len ≡ length (nets.bits_of (declarations_of names.now) (pieces_seen pieces.now))) }
+    ensures limit { OnErr result (AreOverlong names.now pieces.now) }
 {
     let mut len = 0;
     for piece in pieces {
@@ -208,14 +212,17 @@ fn is_uneven<'a>(alloc: Global, names: &Names<'a>, part: &'a [Token<'a>]) -> Res
     are_uneven(names, left.as_slice(), right.as_slice())
 }
 
-/// Whether pieces of two sides are of known nets and of different widths.
+/// Whether pieces of two sides are of known nets and of different widths. The one error is the answer where the
+/// number of bits of a side is not told.
+#[tactic(auto, using(crate::proofs::UseFacts::overlong_left, crate::proofs::UseFacts::overlong_right))]
 fn are_uneven<'a>(
     names: &Names<'a>,
     left: &[Piece<'a>],
     right: &[Piece<'a>],
 ) -> Result<bool, NoMemory>
     requires { IsTied names.now }
-    ensures { IfOk result (λ uneven. uneven ≡ (spec.is_empty (flat_map (spec.unknown_in (declarations_of names.now)) (pieces_seen left.now ++ pieces_seen right.now)) && not (length (nets.bits_of (declarations_of names.now) (pieces_seen left.now)) == length (nets.bits_of (declarations_of names.now) (pieces_seen right.now))))) }
+    ensures is { IfOk result (λ uneven. uneven ≡ (spec.is_empty (flat_map (spec.unknown_in (declarations_of names.now)) (pieces_seen left.now ++ pieces_seen right.now)) && not (length (nets.bits_of (declarations_of names.now) (pieces_seen left.now)) == length (nets.bits_of (declarations_of names.now) (pieces_seen right.now))))) }
+    ensures limit { OnErr result (AreOverlong names.now left.now ⊎ AreOverlong names.now right.now) }
 {
     if !are_known(names, left, right) {
         return Ok(false);

@@ -25,7 +25,7 @@ loop-place-preserved c = λ found at.
     let pair = c.connection_at-connection.ensures.connected found pin.0 at pin.1 in
     rows_mapped (IsPinRow c.args.design.now) (cell_pin c.args.cell found) (connected_pins found) c.loop-place.place
     ((c.loop-place.place, pin.0), shown c.connection_at-connection.result) c.args.rows.now c.loop-place.rows c.push.new.self _ pair
-    (c.in_ok-row.ensures found pin.0 at pin.1) c.in_ok-push.ensures.ok (c.loop-place.invariant found at)
+    (c.in_ok-row.ensures.is found pin.0 at pin.1) c.in_ok-push.ensures.ok (c.loop-place.invariant found at)
 
 pub returns : goal.returns
 returns c = λ found at.

@@ -17,8 +17,8 @@ item_at-pin-requires c =
     pin_low c.args.design.now c.args.cell c.args.at c.item_at-row.result.now c.kind_at-kind.result.now c.as_slice-2.result.now c.requires.is row_at c.requires.pin
     c.kind_at-kind.ensures c.as_slice-2.ensures
 
-pub returns : goal.returns
-returns c = λ found pin at pin_at.
+pub returns-clause-is : goal.returns-clause-is
+returns-clause-is c = λ found pin at pin_at.
     let row_at : slice_get c.args.design.now.layout.cells c.args.cell ≡ Some c.item_at-row.result.now =
     ap (λ (xs : List CellRow). slice_get xs c.args.cell) (sym c.as_slice.ensures) ∙ c.item_at-row.ensures in
     let has = has_cell c.args.design.now c.args.cell c.item_at-row.result.now found c.requires.is row_at at in

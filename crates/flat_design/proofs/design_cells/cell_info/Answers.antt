@@ -11,8 +11,8 @@ overflow_cast-result c =
     let low = first_low c.args.design.now c.args.place c.item_at-row.result.now c.requires.is row_at in
     omega (arith, low)
 
-pub returns : goal.returns
-returns c = λ cell at named.
+pub returns-clause-is : goal.returns-clause-is
+returns-clause-is c = λ cell at named.
     let row_at : slice_get c.args.design.now.layout.cells c.args.place ≡ Some c.item_at-row.result.now =
     ap (λ (xs : List CellRow). slice_get xs c.args.place) (sym c.as_slice.ensures) ∙ c.item_at-row.ensures in
     let row = row_is c.args.design.now c.args.place cell c.item_at-row.result.now c.requires.is row_at at in

@@ -31,7 +31,7 @@ loop-name-preserved c =
     let own_at : slice_get (flat_of c.args.design.now).cells c.len.result ≡ Some cell.0 =
     ap (λ (n : ℕ). slice_get (flat_of c.args.design.now).cells n) place ∙ cell.1.at in
     one_made c.args.design.now c.loop-name.yielded c.in-Some.name cell.0 c.in_ok-cell.cell c.loop-name.cells c.push.new.self cell.1.at
-    (c.in_ok-cell.ensures cell.0 own_at cell.1.named) c.in_ok-push.ensures.ok c.loop-name.invariant
+    (c.in_ok-cell.ensures.is cell.0 own_at cell.1.named) c.in_ok-push.ensures.ok c.loop-name.invariant
 
 pub returns : goal.returns
 returns c =

@@ -8,17 +8,18 @@ use Rattle.sdc_model.specs.ExpressionSteps.{ParsesTo}
 use Rattle.timing_types.specs.declared.objects.Value.{Value}
 use Rattle.sdc_model.specs.BuiltIns.{Concats, Indexes, no_text}
 use Rattle.timing_types.specs.declared.objects.Value.TheVariants as value
-use Rattle.sdc_model.specs.ExpressionValue.{text_of}
+use Rattle.sdc_model.specs.ExpressionValue.{text_of, truth_of}
 use Rattle.sdc_model.specs.HostCalls.{World, text_in}
 use Rattle.sdc_model.specs.Turns.{Answers}
 use Rattle.sdc_model.specs.NamedCommands.{EvaluatesText, ReadsWord, named, spaced}
 use Rattle.sdc_model.specs.ScriptRun.{RunsCommand}
 use Rattle.tcl_eval.specs.ScriptReads.{CommandWithin, beginning}
-use Rattle.tcl_eval.specs.Worlds.{level_of, world}
+use Rattle.tcl_words.proofs.Refusals.{meets_refusal}
+use Rattle.tcl_eval.specs.Worlds.{Begins, level_of, world}
 use Rattle.tcl_eval.proofs.CommandRuns.{begun, body_refused, body_run, body_unread, one_run}
 use Rattle.tcl_eval.proofs.NamedRuns.{by_name, condition_refused, does_hold, does_not_hold, item_refused, item_run, items_run, no_condition_run, no_item_run, no_truth, none_holds, repeats_run, repeats_unread, name_run, words_refused, no_words}
 use Rattle.tcl_eval.proofs.StepRuns.{no_step_run, step_refused, step_run, step_taken, steps_run, word_step, word_step_refused}
-use Rattle.tcl_eval.proofs.TurnFacts.{answer_ok, drop_item, gave, looked, then_ok, then_stop}
+use Rattle.tcl_eval.proofs.TurnFacts.{answer_ok, drop_item, gave, gives_raised, looked, then_ok, then_stop}
 use Rattle.tcl_eval.proofs.WordRuns.{bracket_run, index_run, part_refused, part_run, parts_run, word_refused, word_run, words_run}
 use Rattle.tcl_eval.proofs.scripts.+run.Goals as goal
 
@@ -60,7 +61,7 @@ run_command-returns-in_err-value g below c =
     let same = err_from_is_err_and c.from_residual-in_err-value.result c.from_residual-in_err-value.ensures.1 in
     rw (same.1, same.2)
     (words_refused (level_of g.H.Commands.host c.args.level) c.args.command.now c.args.run.now c.begin.new.self _ c.in_err-value.field-0.0 _
-    c.in_ok-begin.ensures
+    (meets_refusal c.begin.result (Ok c.in_ok-map_err.field-0) (λ given. Begins c.args.run.now given c.begin.new.self) c.in_ok-map_err.ensures.cases c.begin.ensures)
     (word_refused (level_of g.H.Commands.host c.args.level) c.args.command.now.words _ c.loop-word.values.items _ _ _ _ c.in_err-value.field-0.0 _
     c.loop-word.invariant (drop_item c.as_slice-word-items.result.now c.loop-word.word-index c.word-item.result c.loop-word-test.true c.word-item.is) (rw c.as_slice.ensures at c.in_err-value.ensures)))
 
@@ -71,12 +72,12 @@ run_command-loop-word-preserved g below c =
 
 pub run_command-returns-in_default : goal.run_command-returns-in_default
 run_command-returns-in_default g below c =
-    rw c.no_text.ensures (no_words (level_of g.H.Commands.host c.args.level) c.args.command.now c.args.run.now c.begin.new.self _ c.loop-word.values.items _ c.in_ok-begin.ensures (words_run (level_of g.H.Commands.host c.args.level) c.args.command.now.words _ c.loop-word.values.items (drop c.loop-word.word-index c.as_slice-word-items.result.now) _ c.loop-word.invariant (drop_all c.loop-word.word-index c.as_slice-word-items.result.now c.loop-word-test.false)) c.in_default.ensures)
+    rw c.no_text.ensures (no_words (level_of g.H.Commands.host c.args.level) c.args.command.now c.args.run.now c.begin.new.self _ c.loop-word.values.items _ (meets_refusal c.begin.result (Ok c.in_ok-map_err.field-0) (λ given. Begins c.args.run.now given c.begin.new.self) c.in_ok-map_err.ensures.cases c.begin.ensures) (words_run (level_of g.H.Commands.host c.args.level) c.args.command.now.words _ c.loop-word.values.items (drop c.loop-word.word-index c.as_slice-word-items.result.now) _ c.loop-word.invariant (drop_all c.loop-word.word-index c.as_slice-word-items.result.now c.loop-word-test.false)) c.in_default.ensures)
 
 pub run_command-returns : goal.run_command-returns
 run_command-returns g below c =
     name_run (level_of g.H.Commands.host c.args.level) c.args.command.now c.args.run.now c.begin.new.self _ c.loop-word.values.items c.in-Some.first c.in-Some.arguments c.in_ok-name.name _ _ _
-    c.in_ok-begin.ensures (words_run (level_of g.H.Commands.host c.args.level) c.args.command.now.words _ c.loop-word.values.items (drop c.loop-word.word-index c.as_slice-word-items.result.now) _ c.loop-word.invariant (drop_all c.loop-word.word-index c.as_slice-word-items.result.now c.loop-word-test.false)) c.in-Some.ensures c.in_ok-name.ensures c.run_named.ensures
+    (meets_refusal c.begin.result (Ok c.in_ok-map_err.field-0) (λ given. Begins c.args.run.now given c.begin.new.self) c.in_ok-map_err.ensures.cases c.begin.ensures) (words_run (level_of g.H.Commands.host c.args.level) c.args.command.now.words _ c.loop-word.values.items (drop c.loop-word.word-index c.as_slice-word-items.result.now) _ c.loop-word.invariant (drop_all c.loop-word.word-index c.as_slice-word-items.result.now c.loop-word-test.false)) c.in-Some.ensures c.in_ok-name.ensures c.run_named.ensures
 
 -- ---- a word
 
@@ -208,22 +209,23 @@ run_first-returns-in_err-result g below c =
     rw (same.1, same.2)
     (condition_refused (level_of g.H.Commands.host c.args.level) c.args.branches.now c.args.otherwise.now _ _ _ _ _ c.in_err-result.field-0.0 _ c.loop-branch.invariant (drop_item c.args.branches.now c.loop-branch.branch-index c.branch-item.result c.loop-branch-test.true c.branch-item.is) c.in_err-result.ensures)
 
-pub run_first-returns-in_err-truth : goal.run_first-returns-in_err-truth
-run_first-returns-in_err-truth g below c =
-    let same = err_from_is_err_and c.from_residual-in_err-truth.result c.from_residual-in_err-truth.ensures.1 in
+pub run_first-returns-in_err-holds : goal.run_first-returns-in_err-holds
+run_first-returns-in_err-holds g below c =
+    let same = err_from_is_err_and c.from_residual-in_err-holds.result c.from_residual-in_err-holds.ensures.1 in
     rw (same.1, same.2)
-    (no_truth (level_of g.H.Commands.host c.args.level) c.args.branches.now c.args.otherwise.now _ _ _ _ _ c.in_ok-result.result c.in_err-truth.field-0.0 _ c.loop-branch.invariant (drop_item c.args.branches.now c.loop-branch.branch-index c.branch-item.result c.loop-branch-test.true c.branch-item.is) c.in_ok-result.ensures c.in_err-truth.ensures)
+    (no_truth (level_of g.H.Commands.host c.args.level) c.args.branches.now c.args.otherwise.now _ _ _ _ _ c.in_ok-result.result c.in_err-holds.field-0.0 _ c.loop-branch.invariant (drop_item c.args.branches.now c.loop-branch.branch-index c.branch-item.result c.loop-branch-test.true c.branch-item.is) c.in_ok-result.ensures
+    (gives_raised (truth_of c.in_ok-result.result) c.truth_of.result (Err c.in_err-holds.field-0.0) c.in_err-holds.ensures.cases c.truth_of.ensures))
 
-pub run_first-returns-then-branch : goal.run_first-returns-then-branch
-run_first-returns-then-branch g below c =
+pub run_first-returns-then-holds : goal.run_first-returns-then-holds
+run_first-returns-then-holds g below c =
     let body = rw c.as_str.ensures at c.run_body.ensures in
-    does_hold (level_of g.H.Commands.host c.args.level) c.args.branches.now c.args.otherwise.now _ _ _ _ _ c.in_ok-result.result c.in_ok-truth.field-0 _ _ c.run_body.result c.loop-branch.invariant (drop_item c.args.branches.now c.loop-branch.branch-index c.branch-item.result c.loop-branch-test.true c.branch-item.is) c.in_ok-result.ensures
-    c.in_ok-truth.ensures c.if-branch.true body
+    does_hold (level_of g.H.Commands.host c.args.level) c.args.branches.now c.args.otherwise.now _ _ _ _ _ c.in_ok-result.result c.in_ok-holds.holds _ _ c.run_body.result c.loop-branch.invariant (drop_item c.args.branches.now c.loop-branch.branch-index c.branch-item.result c.loop-branch-test.true c.branch-item.is) c.in_ok-result.ensures
+    (gives_raised (truth_of c.in_ok-result.result) c.truth_of.result (Ok c.in_ok-holds.holds) c.in_ok-holds.ensures.cases c.truth_of.ensures) c.if-holds.true body
 
 pub run_first-loop-branch-preserved : goal.run_first-loop-branch-preserved
 run_first-loop-branch-preserved g below c =
-    does_not_hold (level_of g.H.Commands.host c.args.level) c.args.branches.now c.args.otherwise.now _ _ _ _ _ c.in_ok-result.result c.in_ok-truth.field-0 _ c.loop-branch.invariant (drop_item c.args.branches.now c.loop-branch.branch-index c.branch-item.result c.loop-branch-test.true c.branch-item.is) c.in_ok-result.ensures
-    c.in_ok-truth.ensures c.if-branch.false
+    does_not_hold (level_of g.H.Commands.host c.args.level) c.args.branches.now c.args.otherwise.now _ _ _ _ _ c.in_ok-result.result c.in_ok-holds.holds _ c.loop-branch.invariant (drop_item c.args.branches.now c.loop-branch.branch-index c.branch-item.result c.loop-branch-test.true c.branch-item.is) c.in_ok-result.ensures
+    (gives_raised (truth_of c.in_ok-result.result) c.truth_of.result (Ok c.in_ok-holds.holds) c.in_ok-holds.ensures.cases c.truth_of.ensures) c.if-holds.false
 
 pub run_first-returns-in-Some : goal.run_first-returns-in-Some
 run_first-returns-in-Some g below c =
@@ -265,9 +267,8 @@ evaluate-returns-in_err-passed g below c =
 pub evaluate-returns : goal.evaluate-returns
 evaluate-returns g below c =
     let parsed = answer_ok c.parse_expression.result c.in_ok-expression.expression (ParsesTo c.args.text.now) (rw c.as_str.ensures at c.parse_expression.ensures) (sym c.in_ok-expression.was ∙ c.tcl_answer.ensures) in
-    rw c.tcl_answer-2.ensures
-    (steps_run (ReadsWord (level_of g.H.Commands.host c.args.level)) c.args.level.left c.args.text.now c.in_ok-expression.expression _ c.loop-step.passed (reverse c.loop-step.values.items) _ _ c.last_value.result
-    parsed c.if-level-expression.false (rw c.as_slice-step-items.ensures at c.loop-step.invariant.0) (drop_all c.loop-step.step-index c.in_ok-expression.expression.steps (rw c.as_slice-step-items.ensures at c.loop-step-test.false)) c.last_value.ensures)
+    steps_run (ReadsWord (level_of g.H.Commands.host c.args.level)) c.args.level.left c.args.text.now c.in_ok-expression.expression _ c.loop-step.passed (reverse c.loop-step.values.items) _ _ c.last_value.result c.map_err.result
+    parsed c.if-level-expression.false (rw c.as_slice-step-items.ensures at c.loop-step.invariant.0) (drop_all c.loop-step.step-index c.in_ok-expression.expression.steps (rw c.as_slice-step-items.ensures at c.loop-step-test.false)) c.last_value.ensures c.map_err.ensures.cases
 
 -- ---- a step
 

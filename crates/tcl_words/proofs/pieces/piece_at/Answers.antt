@@ -1,10 +1,12 @@
 use Rattle.std.proofs.Common.{sym, ◌∙◌}
 use Rattle.std.proofs.lemmas.Bool.{ne_eqb}
 use Rattle.tcl_words.proofs.PieceFacts.{at_end_is, at_none, at_substituted, at_within}
+use Rattle.tcl_words.proofs.Refusals.{meets_refusal}
 use Rattle.tcl_words.proofs.pieces.piece_at.Goals as goal
 
 pub returns-then-at-bytes : goal.returns-then-at-bytes
-returns-then-at-bytes c = at_none c.args.form c.args.bytes.now c.args.at c.text_end.result c.if-at-bytes.true c.text_end.ensures
+returns-then-at-bytes c =
+    at_none c.args.form c.args.bytes.now c.args.at c.map_err.result c.if-at-bytes.true (meets_refusal c.text_end.result c.map_err.result _ c.map_err.ensures.cases c.text_end.ensures)
 
 pub returns-then-ends : goal.returns-then-ends
 returns-then-ends c = at_end_is c.args.form c.args.bytes.now c.args.at c.word_end.result (at_within c.args.bytes.now c.args.at c.requires c.if-at-bytes.false) (sym c.ends.ensures ∙ c.if-ends.true) c.word_end.ensures
