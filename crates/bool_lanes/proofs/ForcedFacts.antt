@@ -2,7 +2,7 @@
 use Rattle.std.proofs.Common.{◌≡◌, ◌↔◌, ◌%◌, ◌^◌, ℕ, Bool, true, false, Some, None, IsTrue, refl, sym, ◌∙◌}
 use Rattle.std.proofs.Math.Nat.{mod-lt}
 use Rattle.std.proofs.lemmas.Nat.{pow_pos}
-use Rattle.sdc_model.specs.FunctionValue.{Completes, Forces, Takes, Truths, truth}
+use Rattle.function_model.specs.FunctionValue.{Completes, Forces, Takes, Truths, truth}
 use Rattle.bool_lanes.specs.Forced.{only_value}
 use Rattle.bool_lanes.proofs.Completions.{bit_of_cut}
 

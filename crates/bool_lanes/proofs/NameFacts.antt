@@ -6,9 +6,9 @@ use Rattle.std.proofs.lemmas.Map.Text.{hash_set_updates_text}
 use Rattle.std.specs.Prelude.{string_bytes, string_eq}
 use Rattle.indexmap.specs.IndexSet.{IndexSet, Updates, contains_text}
 use Rattle.sdc_base.proofs.CaseFacts.{or_turned}
-use Rattle.sdc_model.specs.FunctionMeaning.{inputs_in, is_other}
-use Rattle.sdc_model.specs.FunctionText.{place_in}
-use Rattle.sdc_model.specs.Words.{is_among, same_text}
+use Rattle.function_model.specs.FunctionMeaning.{inputs_in, is_other}
+use Rattle.function_model.specs.FunctionText.{place_in}
+use Rattle.text_model.specs.Words.{is_among, same_text}
 use Rattle.bool_lanes.specs.KnownNames.{AddsName, AreKnown, HasNames}
 use Rattle.bool_lanes.specs.NamedNumbers.{HasPlaces, number_at}
 use Rattle.bool_lanes.specs.declared.numbers.Numbers.{Numbers}
@@ -58,9 +58,9 @@ place_none places names word placed e =
 
 -- ---- names that are no inputs
 
-pub other_behind : (names : List (List ℕ)) (inputs pin : ℕ) → inputs ≡ inputs_in names → inputs ≤ pin → true ≡ is_other names pin
-other_behind names inputs pin count behind =
-    let h : inputs_in names ≤ pin = subst (λ n. n ≤ pin) count behind in
+pub other_after : (names : List (List ℕ)) (inputs pin : ℕ) → inputs ≡ inputs_in names → inputs ≤ pin → true ≡ is_other names pin
+other_after names inputs pin count after =
+    let h : inputs_in names ≤ pin = subst (λ n. n ≤ pin) count after in
     let e : nat_le (inputs_in names) pin ≡ true = grind (arith, nat_tests) in
     sym (ap (λ t. t || is_among (drop (inputs_in names + 1) names) (get_or names pin [])) e)
 

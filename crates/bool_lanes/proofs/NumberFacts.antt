@@ -5,8 +5,8 @@ use Rattle.std.proofs.lemmas.Slice.Eq.{bytes_eq-Decides}
 use Rattle.std.specs.Cmp.Lexicographic.{nat_list_eq_equiv}
 use Rattle.std.specs.Map.{KeepsOthers, lookup}
 use Rattle.indexmap.specs.IndexMap.{Updates}
-use Rattle.sdc_model.specs.FunctionText.{place_in}
-use Rattle.sdc_model.specs.Words.{same_text}
+use Rattle.function_model.specs.FunctionText.{place_in}
+use Rattle.text_model.specs.Words.{same_text}
 use Rattle.bool_lanes.specs.NamedNumbers.{HasPlaces, is_name, is_same_key, least, number_at, number_if, place_from, place_if}
 use Rattle.bool_lanes.specs.declared.numbers.Numbers.{Numbers}
 
@@ -43,15 +43,15 @@ zero_case (Some place) n h =
     let m : min 0 (1 + place) ≡ 0 = omega arith in
     rw e (ap Some m)
 
-pub behind_case : (place n m : ℕ) → m ≡ 1 + n → further 1 (cond (nat_lt place n) (Some place) None) ≡ cond (nat_lt (1 + place) m) (Some (1 + place)) None
-behind_case place n m h =
+pub after_case : (place n m : ℕ) → m ≡ 1 + n → further 1 (cond (nat_lt place n) (Some place) None) ≡ cond (nat_lt (1 + place) m) (Some (1 + place)) None
+after_case place n m h =
     let e : nat_lt (1 + place) m ≡ nat_lt place n = grind (arith, nat_tests) in
     rw e (further_if 1 place (1 + place) refl (nat_lt place n))
 
 first_step : (t : Bool) (o : Option ℕ) (place n m : ℕ) → m ≡ 1 + n → o ≡ cond (nat_lt place n) (Some place) None
     → least (cond t (Some 0) None) (further 1 o) ≡ cond (nat_lt (cond (not t) (1 + place) 0) m) (Some (cond (not t) (1 + place) 0)) None
 first_step true o place n m e h = zero_case o m (omega arith)
-first_step false o place n m e h = ap (further 1) h ∙ behind_case place n m e
+first_step false o place n m e h = ap (further 1) h ∙ after_case place n m e
 
 pub place_from-place_if : (names : List (List ℕ)) (name : List ℕ) → place_from 0 names name ≡ place_if names name
 place_from-place_if [] name = refl

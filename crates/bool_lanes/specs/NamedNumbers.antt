@@ -1,8 +1,8 @@
 -- Numbers of things that are found by a name: of several things of one name the least number. This project's own.
 use Rattle.std.specs.Prelude.{◌≡◌, ◌+◌, ℕ, Bool, Vec, List, [], ◌∷◌, length, min, nat_lt, if◌then◌else◌, Option, Some, None}
 use Rattle.indexmap.specs.IndexMap.{get_by}
-use Rattle.sdc_model.specs.FunctionText.{place_in}
-use Rattle.sdc_model.specs.Words.{same_text}
+use Rattle.function_model.specs.FunctionText.{place_in}
+use Rattle.text_model.specs.Words.{same_text}
 use Rattle.bool_lanes.specs.declared.numbers.Numbers.{Numbers}
 
 -- a key of the table is a name

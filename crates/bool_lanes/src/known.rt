@@ -1,12 +1,12 @@
 //! Inputs of a function that are known.
 
 ghost use Rattle.std.specs.Prelude.{◌≡◌, ◌<◌, ◌↔◌, IsTrue};
-ghost use Rattle.sdc_model.specs.FunctionValue.{Agrees, AgreesBelow};
+ghost use Rattle.function_model.specs.FunctionValue.{Agrees, AgreesBelow};
 ghost use Rattle.std.specs.Int.{bit_at};
 
 /// What is known of at most 10 inputs: bit i of `mask` says whether input i is known, and bit i of `value` is
 /// then its value. The other bits of `value` say nothing.
-#[derive(Clone, Copy, Debug, PartialEq, Eq)]
+#[derive(Clone, Copy)]
 pub struct Known {
     pub mask: u16,
     pub value: u16,

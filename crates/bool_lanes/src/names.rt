@@ -2,8 +2,8 @@
 
 ghost use Rattle.std.specs.Prelude.{◌≡◌, ◌≤◌, ◌+◌, drop, length, IfOk, OnOk};
 ghost use Rattle.indexmap.specs.IndexSet.{contains_text};
-ghost use Rattle.sdc_model.specs.FunctionMeaning.{inputs_in, is_other, is_unknown};
-ghost use Rattle.sdc_model.specs.FunctionText.{place_in};
+ghost use Rattle.function_model.specs.FunctionMeaning.{inputs_in, is_other, is_unknown};
+ghost use Rattle.function_model.specs.FunctionText.{place_in};
 ghost use Rattle.bool_lanes.specs.KnownNames.{AddsName, HasNames};
 
 use crate::numbers::{Numbers, places_of};
@@ -12,7 +12,7 @@ use sdc_base::{List, NoMemory, Text};
 use std::alloc::Global;
 use std::marker::Model;
 
-/// The names of a cell, as `parse` asks for them: the inputs in order, then an empty text, then the state variables and
+/// The names of a cell, as `parse_prepared` asks for them: the inputs in order, then an empty text, then the state variables and
 /// the other pins; without an empty text all are inputs. Each is found without going through all of them. Contracts see
 /// the list of the names.
 #[derive(Drop)]
@@ -42,7 +42,7 @@ impl Names {
     {
         let inputs = count_inputs(names.as_slice());
         let places = places_of(alloc, names.as_slice())?;
-        let others = set_of(alloc, behind(names.as_slice(), inputs))?;
+        let others = set_of(alloc, after(names.as_slice(), inputs))?;
         Ok(Names {
             names,
             inputs,
@@ -70,7 +70,7 @@ impl Names {
         self.inputs
     }
 
-    /// Whether a place is behind all names.
+    /// Whether a place is after all names.
     pub(crate) fn is_unknown(&self, pin: u16) -> bool
         ensures { result ≡ is_unknown self.now pin }
     {
@@ -78,7 +78,7 @@ impl Names {
     }
 
     /// Whether a place has the name of a state variable or of a pin that is no input.
-    #[tactic(auto, using(crate::proofs::NameFacts::other_behind, crate::proofs::NameFacts::other_among))]
+    #[tactic(auto, using(crate::proofs::NameFacts::other_after, crate::proofs::NameFacts::other_among))]
     pub(crate) fn is_other(&self, pin: u16) -> bool
         ensures { result ≡ is_other self.now pin }
     {
@@ -113,13 +113,13 @@ fn count_inputs(names: &[Text]) -> usize
     names.iter().take_while(|name| name.len() > 0).count()
 }
 
-/// The names behind one that stands behind so many others.
-fn behind(names: &[Text], others: usize) -> &[Text]
+/// The names after one that stands after so many others.
+fn after(names: &[Text], others: usize) -> &[Text]
     ensures { result.now ≡ drop (others + 1) names.now }
 {
     if others < names.len() {
-        let (_, behind) = names.split_at(others + 1);
-        behind
+        let (_, after) = names.split_at(others + 1);
+        after
     } else {
         &[]
     }

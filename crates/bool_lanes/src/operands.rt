@@ -1,11 +1,12 @@
 //! The bytes and operands of a function's text (Liberty, `function`).
 
 ghost use Rattle.std.specs.Prelude.{◌≡◌, ◌≤◌, length, IfOk};
-ghost use Rattle.sdc_model.specs.FunctionText as spec;
+ghost use Rattle.function_model.specs.FunctionText as spec;
 
 use crate::names::Names;
+use pin_types::Expr;
 use sdc_base::{List, NoMemory};
-use sdc_model::{Expr, Operand, Sign};
+use source_types::{Operand, Sign};
 
 /// What a byte of a function's text is.
 pub(crate) fn sign_of(byte: u8) -> Sign

@@ -3,12 +3,13 @@
 ghost use Rattle.std.specs.Prelude.{◌≡◌, ◌++◌, ◌≤◌, [], filter, nat_lt, length, IfOk, OnOk};
 ghost use Rattle.std.specs.List.{list_any};
 ghost use Rattle.sdc_base.specs.Gives.{Gives};
-ghost use Rattle.sdc_model.specs.FunctionMeaning as spec;
+ghost use Rattle.function_model.specs.FunctionMeaning as spec;
 
 use crate::names::Names;
 use crate::reading::expression;
-use sdc_base::{List, NoMemory, Stop};
-use sdc_model::{Expr, LibKind};
+use pin_types::Expr;
+use sdc_base::{Duplicate, List, NoMemory, Stop, Text};
+use source_types::LibKind;
 use std::alloc::Global;
 
 /// The most bytes of a function's text.
@@ -61,7 +62,20 @@ fn inputs_among(alloc: Global, names: &Names, pins: &[u16]) -> Result<List<u16>,
 /// Refused as `FunctionForm` where the text is no function or has more than 1,024 bytes, else as `UnknownPin` where
 /// a name in it is none of the cell's, else as `FunctionWide` where more than 10 different inputs stand in it. The
 /// limits and this order are this project's own.
-pub fn parse(alloc: Global, text: &str, names: &Names) -> Result<Option<Expr>, Stop<LibKind>>
+pub fn parse(alloc: Global, text: &str, names: &List<Text>) -> Result<Option<Expr>, Stop<LibKind>>
+    requires { length names.now ≤ 60001 }
+    ensures { Gives result (spec.meaning names.now text.now) }
+{
+    let names = Names::new(alloc, names.copy(alloc)?)?;
+    parse_prepared(alloc, text, &names)
+}
+
+/// Reads the text of a function as `parse` does, among names that are prepared once for all functions of a cell.
+pub fn parse_prepared(
+    alloc: Global,
+    text: &str,
+    names: &Names,
+) -> Result<Option<Expr>, Stop<LibKind>>
     requires { length names.now ≤ 60001 }
     ensures { Gives result (spec.meaning names.now text.now) }
 {
@@ -93,7 +107,7 @@ fn meaning_of(alloc: Global, names: &Names, expr: Expr) -> Result<Option<Expr>, 
     Ok(Some(expr))
 }
 
-/// Whether one of some places is behind all names.
+/// Whether one of some places is after all names.
 fn any_unknown(names: &Names, pins: &[u16]) -> bool
     ensures { result ≡ list_any (spec.is_unknown names.now) pins.now }
 {

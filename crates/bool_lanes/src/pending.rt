@@ -1,10 +1,11 @@
 //! What stands before an operand, joined to it by how tightly each operator binds (Liberty, `function`).
 
 ghost use Rattle.std.specs.Prelude.{◌≡◌, IfOk};
-ghost use Rattle.sdc_model.specs.FunctionText as text;
+ghost use Rattle.function_model.specs.FunctionText as text;
 
+use pin_types::Expr;
 use sdc_base::{List, NoMemory};
-use sdc_model::{Expr, Pending};
+use source_types::Pending;
 use sqlite_items::Boxed;
 use std::alloc::Global;
 
@@ -80,13 +81,9 @@ fn product_with(
     joined_and(alloc, product, right)
 }
 
-/// What stands before the next operand behind `^`. The one error is want of memory.
-pub(crate) fn behind_xor(
-    alloc: Global,
-    pending: Pending,
-    operand: Expr,
-) -> Result<Pending, NoMemory>
-    ensures { IfOk result (λ p. p ≡ text.behind_xor pending operand) }
+/// What stands before the next operand after `^`. The one error is want of memory.
+pub(crate) fn after_xor(alloc: Global, pending: Pending, operand: Expr) -> Result<Pending, NoMemory>
+    ensures { IfOk result (λ p. p ≡ text.after_xor pending operand) }
 {
     let operand = negated(alloc, pending.negations.as_slice(), operand)?;
     let chain = joined_xor(alloc, pending.chain, operand)?;
@@ -98,13 +95,9 @@ pub(crate) fn behind_xor(
     })
 }
 
-/// What stands before the next operand behind `*`, `&` or a blank. The one error is want of memory.
-pub(crate) fn behind_and(
-    alloc: Global,
-    pending: Pending,
-    operand: Expr,
-) -> Result<Pending, NoMemory>
-    ensures { IfOk result (λ p. p ≡ text.behind_and pending operand) }
+/// What stands before the next operand after `*`, `&` or a blank. The one error is want of memory.
+pub(crate) fn after_and(alloc: Global, pending: Pending, operand: Expr) -> Result<Pending, NoMemory>
+    ensures { IfOk result (λ p. p ≡ text.after_and pending operand) }
 {
     let operand = negated(alloc, pending.negations.as_slice(), operand)?;
     let product = product_with(alloc, pending.chain, pending.product, operand)?;
@@ -116,9 +109,9 @@ pub(crate) fn behind_and(
     })
 }
 
-/// What stands before the next operand behind `+` or `|`. The one error is want of memory.
-pub(crate) fn behind_or(alloc: Global, pending: Pending, operand: Expr) -> Result<Pending, NoMemory>
-    ensures { IfOk result (λ p. p ≡ text.behind_or pending operand) }
+/// What stands before the next operand after `+` or `|`. The one error is want of memory.
+pub(crate) fn after_or(alloc: Global, pending: Pending, operand: Expr) -> Result<Pending, NoMemory>
+    ensures { IfOk result (λ p. p ≡ text.after_or pending operand) }
 {
     let sum = sum_with(alloc, pending, operand)?;
     Ok(Pending {
@@ -138,9 +131,9 @@ pub(crate) fn sum_with(alloc: Global, pending: Pending, operand: Expr) -> Result
     joined_or(alloc, pending.sum, product)
 }
 
-/// What stands before an operand behind one `!` more. The one error is want of memory.
-pub(crate) fn behind_not(pending: Pending) -> Result<Pending, NoMemory>
-    ensures { IfOk result (λ p. p ≡ text.behind_not pending) }
+/// What stands before an operand after one `!` more. The one error is want of memory.
+pub(crate) fn after_not(pending: Pending) -> Result<Pending, NoMemory>
+    ensures { IfOk result (λ p. p ≡ text.after_not pending) }
 {
     let mut negations = pending.negations;
     negations.push(b'!')?;

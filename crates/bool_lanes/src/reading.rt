@@ -1,14 +1,15 @@
 //! The text of a function, read byte by byte (Liberty, `function`).
 
 ghost use Rattle.std.specs.Prelude.{◌≡◌, ◌≤◌, [], length, reverse, IfOk, Some, option_map, option_and_then};
-ghost use Rattle.bool_lanes.specs.Readings.{behind_of, seen};
-ghost use Rattle.sdc_model.specs.FunctionText as spec;
+ghost use Rattle.bool_lanes.specs.Readings.{after_of, seen};
+ghost use Rattle.function_model.specs.FunctionText as spec;
 
 use crate::names::Names;
 use crate::operands::{apart, longer, operand_in, sign_of};
-use crate::pending::{behind_and, behind_not, behind_or, behind_xor, nothing_open, sum_with};
+use crate::pending::{after_and, after_not, after_or, after_xor, nothing_open, sum_with};
+use pin_types::Expr;
 use sdc_base::{List, NoMemory};
-use sdc_model::{Expr, Operand, Pending, Sign};
+use source_types::{Operand, Pending, Sign};
 use sqlite_items::Boxed;
 use std::alloc::Global;
 
@@ -30,14 +31,14 @@ enum Operator {
 }
 
 impl Operator {
-    /// What stands before the next operand behind it. The one error is want of memory.
-    fn behind(self, alloc: Global, pending: Pending, operand: Expr) -> Result<Pending, NoMemory>
-        ensures { IfOk result (λ p. p ≡ behind_of self pending operand) }
+    /// What stands before the next operand after it. The one error is want of memory.
+    fn after(self, alloc: Global, pending: Pending, operand: Expr) -> Result<Pending, NoMemory>
+        ensures { IfOk result (λ p. p ≡ after_of self pending operand) }
     {
         match self {
-            Operator::Xor => behind_xor(alloc, pending, operand),
-            Operator::And => behind_and(alloc, pending, operand),
-            Operator::Or => behind_or(alloc, pending, operand),
+            Operator::Xor => after_xor(alloc, pending, operand),
+            Operator::And => after_and(alloc, pending, operand),
+            Operator::Or => after_or(alloc, pending, operand),
         }
     }
 }
@@ -71,7 +72,7 @@ impl Reading {
         }
     }
 
-    /// This, where an operand may begin: where one is due, or behind blanks, which then mean and.
+    /// This, where an operand may begin: where one is due, or after blanks, which then mean and.
     fn begins(self, alloc: Global) -> Result<Option<Reading>, NoMemory>
         ensures { IfOk result (λ o. option_map seen o ≡ spec.begins self.operand self.pending (seen self).outer) }
     {
@@ -87,7 +88,7 @@ impl Reading {
                 outer,
             })),
             Operand::Apart(left) => {
-                let pending = behind_and(alloc, pending, left)?;
+                let pending = after_and(alloc, pending, left)?;
                 Ok(Some(Reading {
                     operand: Operand::Due,
                     pending,
@@ -118,7 +119,7 @@ impl Reading {
             }
             Operand::Due => word_from(alloc, pending, outer, byte),
             Operand::Apart(left) => {
-                let pending = behind_and(alloc, pending, left)?;
+                let pending = after_and(alloc, pending, left)?;
                 word_from(alloc, pending, outer, byte)
             }
             Operand::Stands(_) => Ok(None),
@@ -162,7 +163,7 @@ impl Reading {
         };
         Ok(Some(Reading {
             operand: Operand::Due,
-            pending: behind_not(begun.pending)?,
+            pending: after_not(begun.pending)?,
             outer: begun.outer,
         }))
     }
@@ -211,14 +212,14 @@ impl Reading {
         operator: Operator,
     ) -> Result<Option<Reading>, NoMemory>
         requires { length names.now ≤ 60001 }
-        ensures { IfOk result (λ o. option_map seen o ≡ option_map (spec.behind (behind_of operator) self.pending (seen self).outer) (spec.operand_in names.now self.operand)) }
+        ensures { IfOk result (λ o. option_map seen o ≡ option_map (spec.after (after_of operator) self.pending (seen self).outer) (spec.operand_in names.now self.operand)) }
     {
         let Some(operand) = operand_in(names, self.operand) else {
             return Ok(None);
         };
         Ok(Some(Reading {
             operand: Operand::Due,
-            pending: operator.behind(alloc, self.pending, operand)?,
+            pending: operator.after(alloc, self.pending, operand)?,
             outer: self.outer,
         }))
     }

@@ -3,10 +3,10 @@
 ghost use Rattle.std.specs.Prelude.{◌≡◌, ◌≢◌, ◌+◌, ◌≤◌, ◌<◌, ◌^◌, ◌↔◌, ℕ, Bool, Some, IsTrue, true};
 ghost use Rattle.std.specs.Int.{bit_at};
 ghost use Rattle.bool_lanes.specs.Forced.{only_value};
-ghost use Rattle.sdc_model.specs.FunctionValue.{pins_are_below, truth, value_of, pin_value, Changes, Completes, Forces, IsTableOf, Takes, TakesAt, ChangesAt, differs};
+ghost use Rattle.function_model.specs.FunctionValue.{pins_are_below, truth, value_of, pin_value, Changes, Completes, Forces, IsTableOf, Takes, TakesAt, ChangesAt, differs};
 
 use crate::known::{Known, bit};
-use sdc_model::Expr;
+use pin_types::Expr;
 use std::marker::Model;
 
 /// The most inputs of a table.
@@ -17,7 +17,7 @@ const MOST_COMPLETIONS: usize = 1024;
 
 /// The truth table of a function of at most 10 inputs: the value of each completion, that is of each choice of
 /// values for all inputs. Bit i of a completion's number is the value of input i.
-#[derive(Debug, Drop)]
+#[derive(Drop)]
 pub struct Table {
     inputs: u8,
     values: [bool; MOST_COMPLETIONS],
@@ -26,7 +26,7 @@ pub struct Table {
 impl Model for Table {
     ghost use Rattle.std.specs.Prelude.{◌≤◌, ◌^◌, take};
     ghost use Rattle.bool_lanes.specs.Forced.{only_value};
-    ghost use Rattle.sdc_model.specs.FunctionValue.{Truths};
+    ghost use Rattle.function_model.specs.FunctionValue.{Truths};
 
     ghost Value = { Truths };
 

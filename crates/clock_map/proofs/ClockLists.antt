@@ -1,11 +1,11 @@
--- The clocks of all modes, none of them generated, one mode behind the other.
+-- The clocks of all modes, none of them generated, one mode after the other.
 use Rattle.std.proofs.Common.{◌≡◌, ℕ, zero, suc, ◌+◌, ◌<◌, List, [], ◌∷◌, ◌++◌, length, drop, get_or, sym, ap, ◌∙◌, subst, append_assoc, arith}
 use Rattle.std.proofs.lemmas.List.{drop_more}
 use Rattle.timing_types.specs.declared.views.View.{View}
 use Rattle.timing_types.specs.declared.identities.Standing.{Standing}
 use Rattle.timing_types.specs.declared.identities.Identity.{Identity}
-use Rattle.sdc_model.specs.ClockIdentity.{mode_standings, identities_among, standings_of, identities_of}
-use Rattle.sdc_model.specs.PlainViews.{ArePrimary, ModesArePrimary, HaveWaves}
+use Rattle.merge_model.specs.ClockIdentity.{mode_standings, identities_among, standings_of, identities_of}
+use Rattle.merge_model.specs.PlainViews.{ArePrimary, ModesArePrimary, HaveWaves}
 
 pub primary_mode : (views : List View) (i : ℕ) (view : View) → ModesArePrimary views → i < length views → view ≡ get_or views i view → ArePrimary view.mode.clocks
 primary_mode views i view all within is = subst (λ (v : View). ArePrimary v.mode.clocks) (sym is) (at_place views i view all within) where

@@ -10,7 +10,7 @@ use Rattle.timing_types.specs.declared.clocks.Form.TheVariants.{Primary, Generat
 use Rattle.timing_types.specs.declared.clocks.Shape.TheVariants.{Divide, Multiply, Edges}
 use Rattle.timing_types.specs.contracts.identities.DefinitionOrd.TheImpl as definition_order
 use Rattle.timing_types.specs.contracts.identities.IdentityOrd.TheImpl as identity_order
-use Rattle.source_types.specs.contracts.pins.PinOrd.TheImpl as pin_order
+use Rattle.pin_types.specs.contracts.pins.PinOrd.TheImpl as pin_order
 use Rattle.timing_types.specs.contracts.clocks.EarlyOrd.TheImpl as early_order
 use Rattle.timing_types.specs.contracts.clocks.LatencyOrd.TheImpl as latency_order
 use Rattle.timing_types.specs.contracts.clocks.FormOrd.TheImpl as form_order

@@ -6,7 +6,8 @@ use Rattle.std.proofs.lemmas.Bool.{false≢true, not-true, or_cases, or_left, or
 use Rattle.std.proofs.lemmas.Bool.Decides.{nat_tests}
 use Rattle.timing_types.specs.declared.clocks.Pair.{Pair}
 use Rattle.timing_types.specs.declared.views.View.{View}
-use Rattle.sdc_model.specs.Exclusive.{pair_of, LetsBeTimed, SomeLetsBeTimed}
+use Rattle.constraint_model.specs.ExclusivePairs.{pair_of}
+use Rattle.merge_model.specs.Exclusive.{LetsBeTimed, SomeLetsBeTimed}
 use Rattle.clock_map.specs.declared.timings.Timing.{Timing}
 use Rattle.clock_map.specs.Timings.{same_pair, IsTiming, AreTimings, lets_at, lets_time}
 

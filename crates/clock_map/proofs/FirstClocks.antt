@@ -15,9 +15,9 @@ use Rattle.std.proofs.lemmas.Bool.{cases_eq}
 pub others_are_row : (timings : List Timing) (count first : ℕ) (flags : List Bool) (b n : ℕ)
     → AreFlags count first (λ k. list_any (lets_time first k) timings) flags → first < b → b + n ≤ count
     → others_from flags first b n ≡ row_from timings first b n
-others_are_row timings count first flags b zero known behind within = refl
-others_are_row timings count first flags b (suc n) known behind within =
-    ap (λ t. pair_unless t first b ++ others_from flags first (suc b) n) (known.1 b behind (omega arith))
+others_are_row timings count first flags b zero known after within = refl
+others_are_row timings count first flags b (suc n) known after within =
+    ap (λ t. pair_unless t first b ++ others_from flags first (suc b) n) (known.1 b after (omega arith))
     ∙ ap (λ rest. pair_unless (list_any (lets_time first b) timings) first b ++ rest)
     (others_are_row timings count first flags (suc b) n known (omega arith) (omega arith))
 

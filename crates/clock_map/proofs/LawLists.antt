@@ -17,7 +17,7 @@ use Rattle.timing_types.specs.declared.views.Arrivals.{Arrivals}
 use Rattle.timing_types.specs.declared.views.View.{View}
 use Rattle.timing_types.specs.declared.identities.Standing.{Standing}
 use Rattle.timing_types.specs.declared.identities.Identity.{Identity}
-use Rattle.sdc_model.specs.ClockIdentity.{standings_from, mode_standings, same_definition, is_ahead, rank_among, identity_among, identities_among}
+use Rattle.merge_model.specs.ClockIdentity.{standings_from, mode_standings, same_definition, is_ahead, rank_among, identity_among, identities_among}
 use Rattle.clock_map.proofs.Exact.{both_equal}
 use Rattle.clock_map.proofs.RankLists.{definition_total, count_more}
 
@@ -62,7 +62,7 @@ count_exceeds p q (y ∷ xs) (suc i) x more at fails passes =
     let here = one_grows (p y) (q y) (more y) in
     omega (arith, count_more p y xs, count_more q y xs)
 
--- a clock has a lesser rank than one of its definition behind it
+-- a clock has a lesser rank than one of its definition after it
 pub rank_below : (all : List Standing) (i : ℕ) (x y : Standing) → slice_get all i ≡ Some x → x.definition ≡ y.definition → ahead_cmp x y ≡ Less
     → rank_among all x < rank_among all y
 rank_below all i x y at same less =
@@ -94,9 +94,9 @@ map_get f [] p y e = cc
 map_get f (x ∷ xs) zero y e = (x, refl, cc)
 map_get f (x ∷ xs) (suc p) y e = map_get f xs p y e
 
-pub ranks_tell_apart : (numbers : List ℕ) (view : View) (p q : ℕ) (x y : Identity)
+pub ranks_distinguish : (numbers : List ℕ) (view : View) (p q : ℕ) (x y : Identity)
     → slice_get (identities_among (mode_standings numbers view)) p ≡ Some x → slice_get (identities_among (mode_standings numbers view)) q ≡ Some y → x ≡ y → p ≡ q
-ranks_tell_apart numbers view p q x y e f same = by_order (ahead_cmp one.0 other.0) refl where
+ranks_distinguish numbers view p q x y e f same = by_order (ahead_cmp one.0 other.0) refl where
   one : (z : Standing) × (slice_get (mode_standings numbers view) p ≡ Some z) × (identity_among (mode_standings numbers view) z ≡ x)
   one = map_get (identity_among (mode_standings numbers view)) (mode_standings numbers view) p x e
 

@@ -27,9 +27,9 @@ pub marks_done : (first i a : ℕ) (timing : Timing) (start after : List Bool) �
     → Marks first (λ k. lets_time first k timing) start after
 marks_done first i a timing start after fits done is known = (
   known.0,
-  λ k behind within.
+  λ k rest within.
       let place : Option ℕ = get_or timing.places.items k None in
-      known.1 k behind within
+      known.1 k rest within
       ∙ ap (λ u. get_or start k false || u)
       (all_before i a timing.exclusive.keys place
       (λ p e. let below = slice_get_within timing.numbers p k ((fits.1 k p within).0 e) in omega arith)

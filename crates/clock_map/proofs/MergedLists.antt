@@ -8,7 +8,7 @@ use Rattle.std.proofs.lemmas.Option.{slice_get_within, slice_get-get_or, slice_g
 use Rattle.timing_types.specs.declared.clocks.Clock.{Clock}
 use Rattle.timing_types.specs.declared.clocks.Wave.{Wave}
 use Rattle.timing_types.specs.declared.identities.Standing.{Standing}
-use Rattle.sdc_model.specs.ClockIdentity.{names_of, clock_with, IsMergedName, IsMerged}
+use Rattle.merge_model.specs.ClockIdentity.{names_of, clock_with, IsMergedName, IsMerged}
 use Rattle.clock_map.specs.declared.merged.Merged.{Merged}
 use Rattle.clock_map.specs.Numbering.{RisesTo}
 use Rattle.clock_map.specs.MergedClocks.{HaveSameNames, AddsMerged, Rises, AreMerged}

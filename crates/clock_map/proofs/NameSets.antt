@@ -12,7 +12,7 @@ use Rattle.std.proofs.lemmas.List.Elements.{Contains-append_left, Contains-push,
 use Rattle.std.proofs.lemmas.Map.Lookups.{exact_bytes}
 use Rattle.std.proofs.lemmas.Map.Views.{btree_set_contains_iff}
 use Rattle.timing_types.specs.declared.identities.Standing.{Standing}
-use Rattle.sdc_model.specs.ClockIdentity.{names_of, numbered_name, IsMergedName}
+use Rattle.merge_model.specs.ClockIdentity.{names_of, numbered_name, IsMergedName}
 use Rattle.clock_map.specs.MergedClocks.{HaveSameNames, HasOneMore}
 
 abbrev text_cmp : List ℕ → List ℕ → Ordering

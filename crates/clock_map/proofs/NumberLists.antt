@@ -13,7 +13,7 @@ use Rattle.std.proofs.lemmas.Option.{same_Some}
 use Rattle.std.proofs.lemmas.List.{length_push, take_more, take_all, length-take-le}
 use Rattle.timing_types.specs.declared.identities.Identity.{Identity}
 use Rattle.timing_types.specs.contracts.identities.IdentityOrd.TheImpl.Laws as identity_laws
-use Rattle.sdc_model.proofs.ListFacts.{element_at}
+use Rattle.text_model.proofs.ListFacts.{element_at}
 use Rattle.clock_map.specs.Numbering.{RisesTo, AreNumbers, Numbers, identity_cmp}
 use Rattle.clock_map.proofs.Exact.{identity_exact}
 

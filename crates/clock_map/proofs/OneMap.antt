@@ -11,9 +11,9 @@ use Rattle.timing_types.specs.declared.clocks.Wave.{Wave}
 use Rattle.timing_types.specs.declared.identities.Standing.{Standing}
 use Rattle.timing_types.specs.declared.views.ClockMap.{ClockMap}
 use Rattle.timing_types.specs.declared.views.View.{View}
-use Rattle.sdc_model.specs.ClockIdentity.{master_at, HasDepth, HasDepthAt, names_of, numbered_name, IsFreeName, IsMergedName, clock_with, standings_of, identities_of, IsMerged, IsClockMap}
-use Rattle.sdc_model.specs.PlainViews.{ArePrimary, ModesArePrimary, clock_count}
-use Rattle.sdc_model.proofs.ListFacts.{element_at}
+use Rattle.merge_model.specs.ClockIdentity.{master_at, HasDepth, HasDepthAt, names_of, numbered_name, IsFreeName, IsMergedName, clock_with, standings_of, identities_of, IsMerged, IsClockMap}
+use Rattle.merge_model.specs.PlainViews.{ArePrimary, ModesArePrimary, clock_count}
+use Rattle.text_model.proofs.ListFacts.{element_at}
 use Rattle.clock_map.proofs.MergedLists.{EachMerged}
 use Rattle.clock_map.proofs.OneNumbering.{AppearInOrder, AreAlike, numbers_once, count_once}
 use Rattle.clock_map.proofs.PlainMaps.{identities_plain, no_master_among}
@@ -125,7 +125,7 @@ merged_once standings numbers earlier k clock clock' wave wave' one other =
       one.wave_is ∙ ap (λ (s : Standing). s.definition.wave) first ∙ sym other.wave_is,
     )
 
--- merged clocks behind the same ones are the same
+-- merged clocks after the same ones are the same
 items_once : (standings : List Standing) (numbers : List ℕ) (clocks clocks' : List Clock) (waves waves' : List Wave) (k : ℕ)
     → EachMerged standings numbers clocks waves → EachMerged standings numbers clocks' waves'
     → length clocks ≡ length clocks' → length waves ≡ length clocks → length waves' ≡ length clocks'

@@ -3,8 +3,8 @@ use Rattle.std.proofs.Common.{◌≡◌, ℕ, zero, suc, ◌<◌, ◌≤◌, Lis
 use Rattle.std.specs.Prelude.{◌⊎◌, ◌↔◌, slice_get}
 use Rattle.std.proofs.lemmas.Bool.{cases_eq, cases_lt}
 use Rattle.std.proofs.lemmas.Option.{same_Some}
-use Rattle.sdc_model.specs.ClockIdentity.{IsFirstAt}
-use Rattle.sdc_model.proofs.ListFacts.{element_at}
+use Rattle.merge_model.specs.ClockIdentity.{IsFirstAt}
+use Rattle.text_model.proofs.ListFacts.{element_at}
 use Rattle.clock_map.proofs.SharedClocks.{same_lists}
 
 -- numbers below a count, each of them somewhere, and lesser ones first

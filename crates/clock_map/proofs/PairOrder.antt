@@ -7,8 +7,8 @@ use Rattle.std.proofs.lemmas.List.Elements.{Contains-append_left, Contains-appen
 use Rattle.std.proofs.lemmas.Option.{slice_get_within}
 use Rattle.timing_types.specs.declared.clocks.Pair.{Pair}
 use Rattle.timing_types.specs.declared.views.View.{View}
-use Rattle.sdc_model.specs.Exclusive.{ComesBefore, AreExclusivePairs}
-use Rattle.sdc_model.proofs.ListFacts.{contains_at, get_append}
+use Rattle.merge_model.specs.Exclusive.{ComesBefore, AreExclusivePairs}
+use Rattle.text_model.proofs.ListFacts.{contains_at, get_append}
 use Rattle.clock_map.specs.declared.timings.Timing.{Timing}
 use Rattle.clock_map.specs.Timings.{AreTimings, lets_time, pair_unless, row_from, row, rows_from}
 use Rattle.clock_map.proofs.ExclusiveLists.{some_says, some_shows}

@@ -4,7 +4,7 @@ use Rattle.std.specs.Prelude.{◌↔◌, slice_get}
 use Rattle.std.proofs.lemmas.Bool.{cases_eq, cases_lt}
 use Rattle.std.proofs.lemmas.List.{length-set}
 use Rattle.std.proofs.lemmas.Option.{same_Some, slice_get_within}
-use Rattle.sdc_model.specs.Exclusive.{IsApart}
+use Rattle.constraint_model.specs.ListOrder.{HasEachOnce}
 use Rattle.clock_map.specs.Timings.{ArePlaces}
 
 -- the merged clocks of the clocks so far have their places
@@ -12,7 +12,7 @@ pub record PlacesSoFar (count : ℕ) (numbers : List ℕ) (i : ℕ) (places : Li
   pub long : length places ≡ count
   pub at : (k place : ℕ) → k < count → (get_or places k None ≡ Some place) ↔ ((place < i) × (slice_get numbers place ≡ Some k))
 
-pub place_set : (count : ℕ) (numbers : List ℕ) (i number : ℕ) (places places' : List (Option ℕ)) → IsApart numbers → i < length numbers → slice_get numbers i ≡ Some number
+pub place_set : (count : ℕ) (numbers : List ℕ) (i number : ℕ) (places places' : List (Option ℕ)) → HasEachOnce numbers → i < length numbers → slice_get numbers i ≡ Some number
     → number < count → places' ≡ set places number (Some i) → PlacesSoFar count numbers i places → PlacesSoFar count numbers (i + 1) places'
 place_set count numbers i number places places' apart within here known places_is so_far = record {
   long = ap length places_is ∙ length-set places number (Some i) ∙ so_far.long;

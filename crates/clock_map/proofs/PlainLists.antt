@@ -3,7 +3,7 @@ use Rattle.std.proofs.Common.{◌≡◌, ℕ, zero, suc, ◌+◌, ◌-◌, ◌<�
 use Rattle.std.proofs.lemmas.List.{take_more}
 use Rattle.timing_types.specs.declared.clocks.Clock.{Clock}
 use Rattle.timing_types.specs.declared.views.View.{View}
-use Rattle.sdc_model.specs.PlainViews.{IsPrimary, ArePrimary, ModesArePrimary, HaveWaves, clock_count, ArePlain}
+use Rattle.merge_model.specs.PlainViews.{IsPrimary, ArePrimary, ModesArePrimary, HaveWaves, clock_count, ArePlain}
 use Rattle.clock_map.proofs.StandingLists.{primary_at}
 
 -- one of them

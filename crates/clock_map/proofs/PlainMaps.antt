@@ -15,8 +15,8 @@ use Rattle.timing_types.specs.declared.views.View.{View}
 use Rattle.timing_types.specs.declared.views.ClockMap.{ClockMap}
 use Rattle.timing_types.specs.declared.identities.Standing.{Standing}
 use Rattle.timing_types.specs.declared.identities.Identity.{Identity}
-use Rattle.sdc_model.specs.ClockIdentity.{merged_form, definition_of, standings_from, mode_standings, identities_among, identity_among, standings_of, identities_of, master_of, HasDepthAt, IsFirstAt, IsClockMap}
-use Rattle.sdc_model.specs.PlainViews.{IsPrimary, ArePrimary, ModesArePrimary, HaveWaves, clock_count}
+use Rattle.merge_model.specs.ClockIdentity.{merged_form, definition_of, standings_from, mode_standings, identities_among, identity_among, standings_of, identities_of, master_of, HasDepthAt, IsFirstAt, IsClockMap}
+use Rattle.merge_model.specs.PlainViews.{IsPrimary, ArePrimary, ModesArePrimary, HaveWaves, clock_count}
 use Rattle.clock_map.specs.Numbering.{RisesTo, AreNumbers}
 use Rattle.clock_map.specs.MergedClocks.{AreMerged}
 use Rattle.clock_map.proofs.StandingLists.{form_stays}

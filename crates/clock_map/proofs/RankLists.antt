@@ -12,7 +12,7 @@ use Rattle.std.proofs.lemmas.List.{map_more}
 use Rattle.timing_types.specs.declared.identities.Definition.{Definition}
 use Rattle.timing_types.specs.declared.identities.Standing.{Standing}
 use Rattle.timing_types.specs.declared.identities.Identity.{Identity}
-use Rattle.sdc_model.specs.ClockIdentity.{rank_among, same_definition, is_ahead, identity_among}
+use Rattle.merge_model.specs.ClockIdentity.{rank_among, same_definition, is_ahead, identity_among}
 use Rattle.timing_types.specs.contracts.identities.DefinitionOrd.TheImpl as definition_order
 use Rattle.timing_types.specs.contracts.identities.DefinitionOrd.TheImpl.Laws as definition_laws
 use Rattle.timing_types.specs.contracts.identities.StandingOrd.TheImpl as standing_order
@@ -47,13 +47,13 @@ pub point_counts : {X : Type 0} (p : X → Bool) (xs : List X) (i : ℕ) → i �
     → ((k : ℕ) (d : X) → k < i → p (get_or xs k d) ≡ true)
     → ((k : ℕ) (d : X) → i ≤ k → k < length xs → p (get_or xs k d) ≡ false)
     → i ≡ count_by p xs
-point_counts p [] i short before behind = omega arith
-point_counts p (x ∷ xs) zero short before behind =
-    sym (count_none p (x ∷ xs) (λ k d within. behind k d (omega arith) within))
-point_counts p (x ∷ xs) (suc i) short before behind =
+point_counts p [] i short before after = omega arith
+point_counts p (x ∷ xs) zero short before after =
+    sym (count_none p (x ∷ xs) (λ k d within. after k d (omega arith) within))
+point_counts p (x ∷ xs) (suc i) short before after =
     let here : p x ≡ true = before 0 x (omega arith) in
     let rest : i ≡ count_by p xs = point_counts p xs i (omega arith)
-    (λ k d within. before (suc k) d (omega arith)) (λ k d from within. behind (suc k) d (omega arith) (omega arith)) in
+    (λ k d within. before (suc k) d (omega arith)) (λ k d from within. after (suc k) d (omega arith) (omega arith)) in
     let step : count_by p (x ∷ xs) ≡ 1 + count_by p xs = count_more p x xs ∙ ap (λ b. cond b 1 0 + count_by p xs) here in
     omega arith
 
@@ -113,12 +113,12 @@ pub rank_stays : (xs ys : List Standing) (x : Standing) → IsPermutation xs ys 
 rank_stays xs ys x moved =
     sum_by-IsPermutation (λ other. cond (same_definition other.definition x.definition && is_ahead other x) 1 0) xs ys moved
 
-pub identities_step : (all sorted : List Standing) (i : ℕ) (clock : Standing) (rank : ℕ) (definition : Definition) (before after : List Identity)
+pub identities_step : (all sorted : List Standing) (i : ℕ) (clock : Standing) (rank : ℕ) (definition : Definition) (before later : List Identity)
     → i < length all → clock ≡ get_or all i clock → IsPermutation all sorted
     → definition ≡ clock.definition → rank ≡ rank_among sorted clock
-    → after ≡ before ++ record { definition = definition; rank = rank } ∷ []
-    → before ≡ map (identity_among all) (take i all) → after ≡ map (identity_among all) (take (i + 1) all)
-identities_step all sorted i clock rank definition before after within is moved definition_is rank_is after_is known =
+    → later ≡ before ++ record { definition = definition; rank = rank } ∷ []
+    → before ≡ map (identity_among all) (take i all) → later ≡ map (identity_among all) (take (i + 1) all)
+identities_step all sorted i clock rank definition before later within is moved definition_is rank_is after_is known =
     let same : rank ≡ rank_among all clock = rank_is ∙ rank_stays all sorted clock moved in
     let identity : record { definition = definition; rank = rank } ≡ identity_among all clock =
     λ j. record { definition = definition_is j; rank = same j } in

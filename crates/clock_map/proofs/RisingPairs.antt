@@ -1,11 +1,11 @@
--- Rising lists of pairs: each pair stands before those behind it. Two such lists with the same pairs are the same.
+-- Rising lists of pairs: each pair stands before those after it. Two such lists with the same pairs are the same.
 use Rattle.std.proofs.Common.{◌≡◌, ◌<◌, ℕ, zero, suc, List, [], ◌∷◌, Some, refl, sym, ap, ◌∙◌, subst, inl, inr, arith}
 use Rattle.std.specs.Prelude.{◌⊎◌, slice_get}
 use Rattle.std.specs.List.{Contains}
 use Rattle.std.proofs.lemmas.Option.{same_Some, slice_get_within, slice_get-get_or, get_or_from_slice_get}
 use Rattle.timing_types.specs.declared.clocks.Pair.{Pair}
 use Rattle.timing_types.specs.declared.views.View.{View}
-use Rattle.sdc_model.specs.Exclusive.{AreExclusivePairs, ComesBefore}
+use Rattle.merge_model.specs.Exclusive.{AreExclusivePairs, ComesBefore}
 
 -- a pair stands before another one in order
 unfoldable pub Before : Pair → Pair → Type 0
@@ -22,7 +22,7 @@ abbrev pub AllAfter : Pair → List Pair → Type 0
 AllAfter p [] = Unit {0}
 AllAfter p (q ∷ qs) = Before p q × AllAfter p qs
 
--- each pair stands before those behind it
+-- each pair stands before those after it
 abbrev pub Rising : List Pair → Type 0
 Rising [] = Unit {0}
 Rising (p ∷ ps) = AllAfter p ps × Rising ps

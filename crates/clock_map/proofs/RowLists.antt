@@ -3,7 +3,7 @@ use Rattle.std.proofs.Common.{◌≡◌, ℕ, ◌+◌, ◌-◌, ◌<◌, ◌≤�
 use Rattle.std.specs.List.{concat, AllZip}
 use Rattle.std.proofs.lemmas.List.{take-append-drop, append-nil, drop-drop, drop_more, take_more, length-take-le, length-drop}
 use Rattle.timing_types.specs.declared.views.View.{View}
-use Rattle.sdc_model.specs.PlainViews.{clock_count}
+use Rattle.merge_model.specs.PlainViews.{clock_count}
 
 pub concat_push : (rows : List (List ℕ)) (row : List ℕ) → concat (rows ++ row ∷ []) ≡ concat rows ++ row
 concat_push [] row = append-nil row

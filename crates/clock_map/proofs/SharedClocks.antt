@@ -11,13 +11,15 @@ use Rattle.timing_types.specs.declared.views.Arrivals.{Arrivals}
 use Rattle.timing_types.specs.declared.views.View.{View}
 use Rattle.timing_types.specs.declared.views.ClockMap.{ClockMap}
 use Rattle.timing_types.specs.declared.identities.Standing.{Standing}
-use Rattle.sdc_model.specs.ClockIdentity.{merged_form, definition_of, standings_from, mode_standings, identity_among, identities_among, identities_of, IsClockMap}
-use Rattle.sdc_model.specs.PlainViews.{ArePrimary, ModesArePrimary, HaveWaves, without_line, HaveSameClocks}
-use Rattle.sdc_model.specs.Exclusive.{IsApart, AreApart}
-use Rattle.sdc_model.proofs.ListFacts.{element_at}
+use Rattle.merge_model.specs.ClockIdentity.{merged_form, definition_of, standings_from, mode_standings, identity_among, identities_among, identities_of, IsClockMap}
+use Rattle.merge_model.specs.PlainViews.{ArePrimary, ModesArePrimary, HaveWaves, HaveSameClocks}
+use Rattle.constraint_model.specs.ModeLines.{without_line}
+use Rattle.constraint_model.specs.ListOrder.{HasEachOnce}
+use Rattle.merge_model.specs.Exclusive.{HaveEachOnce}
+use Rattle.text_model.proofs.ListFacts.{element_at}
 use Rattle.clock_map.proofs.StandingLists.{form_stays}
 use Rattle.clock_map.proofs.PlainMaps.{length-from}
-use Rattle.clock_map.proofs.LawLists.{ranks_tell_apart}
+use Rattle.clock_map.proofs.LawLists.{ranks_distinguish}
 
 -- ---- places in lists joined end to end
 
@@ -26,12 +28,12 @@ get_front [] ys i within = absurd (omega arith)
 get_front (x ∷ xs) ys zero within = refl
 get_front (x ∷ xs) ys (suc i) within = get_front xs ys i (omega arith)
 
-get_behind : {X : Type 0} (xs ys : List X) (n i : ℕ) → length xs ≡ n → slice_get (xs ++ ys) (n + i) ≡ slice_get ys i
-get_behind [] ys n i e = ap (slice_get ys) (omega arith)
-get_behind (x ∷ xs) ys zero i e = absurd (omega arith)
-get_behind (x ∷ xs) ys (suc n) i e =
+get_after : {X : Type 0} (xs ys : List X) (n i : ℕ) → length xs ≡ n → slice_get (xs ++ ys) (n + i) ≡ slice_get ys i
+get_after [] ys n i e = ap (slice_get ys) (omega arith)
+get_after (x ∷ xs) ys zero i e = absurd (omega arith)
+get_after (x ∷ xs) ys (suc n) i e =
     let next : suc n + i ≡ suc (n + i) = omega arith in
-    ap (slice_get ((x ∷ xs) ++ ys)) next ∙ get_behind xs ys n i (omega arith)
+    ap (slice_get ((x ∷ xs) ++ ys)) next ∙ get_after xs ys n i (omega arith)
 
 -- a row of a map, with what is known of its mode
 pub record IsRow (views : List View) (maps : List (List ℕ)) (view : View) (row : List ℕ) : Type 0 where
@@ -74,16 +76,16 @@ row_at (first ∷ views) (row ∷ maps) (suc m) view shape waves e =
         long = known.long;
         waves = known.waves;
         number = λ i within. ap (slice_get (row ++ concat maps)) (omega arith)
-            ∙ get_behind row (concat maps) (length row) (known.offset + i) refl ∙ known.number i within;
+            ∙ get_after row (concat maps) (length row) (known.offset + i) refl ∙ known.number i within;
         identity = λ i within. ap (slice_get (identities_among (mode_standings row first) ++ identities_of views maps)) (omega arith)
-            ∙ get_behind (identities_among (mode_standings row first)) (identities_of views maps) (length row) (known.offset + i) (omega (arith, shape.0)) ∙ known.identity i within;
+            ∙ get_after (identities_among (mode_standings row first)) (identities_of views maps) (length row) (known.offset + i) (omega (arith, shape.0)) ∙ known.identity i within;
       },
     )
 
 -- ---- clocks of one mode
 
-row_apart : (views : List View) (map : ClockMap) (view : View) (row : List ℕ) → IsClockMap views map → IsRow views map.maps view row → IsApart row
-row_apart views map view row is known p q n e f =
+row_distinct : (views : List View) (map : ClockMap) (view : View) (row : List ℕ) → IsClockMap views map → IsRow views map.maps view row → HasEachOnce row
+row_distinct views map view row is known p q n e f =
     let p_within = slice_get_within row p n e in
     let q_within = slice_get_within row q n f in
     let number = known.number p p_within ∙ e in
@@ -97,19 +99,19 @@ row_apart views map view row is known p q n e f =
     let y = element_at (identities_among (mode_standings row view)) q (omega arith) in
     let equal : Some x.0 ≡ Some y.0 = sym x.1 ∙ sym (known.identity p p_within) ∙ same ∙ known.identity q q_within ∙ y.1 in
     let equal' : x.0 ≡ y.0 = cc in
-    ranks_tell_apart row view p q x.0 y.0 x.1 y.1 equal'
+    ranks_distinguish row view p q x.0 y.0 x.1 y.1 equal'
 
-each_apart : (maps : List (List ℕ)) → ((m : ℕ) (row : List ℕ) → slice_get maps m ≡ Some row → IsApart row) → AreApart maps
-each_apart [] each = tt
-each_apart (row ∷ maps) each = (each 0 row refl, each_apart maps (λ m r e. each (suc m) r e))
+each_distinct : (maps : List (List ℕ)) → ((m : ℕ) (row : List ℕ) → slice_get maps m ≡ Some row → HasEachOnce row) → HaveEachOnce maps
+each_distinct [] each = tt
+each_distinct (row ∷ maps) each = (each 0 row refl, each_distinct maps (λ m r e. each (suc m) r e))
 
-pub apart : (views : List View) (map : ClockMap) → HaveWaves views → IsClockMap views map → AreApart map.maps
-apart views map waves is = each_apart map.maps (λ m row e.
+pub apart : (views : List View) (map : ClockMap) → HaveWaves views → IsClockMap views map → HaveEachOnce map.maps
+apart views map waves is = each_distinct map.maps (λ m row e.
     let found = row_of views map.maps m row is.shape e in
     let known = row_at views map.maps m found.0 is.shape waves found.1 in
     let same : Some known.0 ≡ Some row = sym known.1 ∙ e in
     let same' : known.0 ≡ row = cc in
-    subst IsApart same' (row_apart views map found.0 known.0 is known.2)) where
+    subst HasEachOnce same' (row_distinct views map found.0 known.0 is known.2)) where
       row_of : (views : List View) (maps : List (List ℕ)) (m : ℕ) (row : List ℕ) → AllZip (λ view row. length row ≡ length view.mode.clocks) views maps → slice_get maps m ≡ Some row
           → (view : View) × (slice_get views m ≡ Some view)
       row_of [] [] m row shape e = cc
@@ -204,9 +206,9 @@ get_taken [] k (suc l) less = refl
 get_taken (x ∷ xs) zero (suc l) less = refl
 get_taken (x ∷ xs) (suc k) (suc l) less = get_taken xs k l (omega arith)
 
-pub names_apart : (views : List View) (map : ClockMap) → IsClockMap views map → (k l : ℕ) (first second : Clock) → k < l
+pub names_distinct : (views : List View) (map : ClockMap) → IsClockMap views map → (k l : ℕ) (first second : Clock) → k < l
     → slice_get map.clocks k ≡ Some first → slice_get map.clocks l ≡ Some second → first.name ≡ second.name → ⊥
-names_apart views map is k l first second less e f same =
+names_distinct views map is k l first second less e f same =
     let within = slice_get_within map.clocks l second f in
     let waves = is.waves in
     let wave = element_at map.waves l (omega arith) in

@@ -8,8 +8,8 @@ use Rattle.timing_types.specs.declared.clocks.Form.TheVariants.{Primary, Generat
 use Rattle.timing_types.specs.declared.views.Arrivals.{Arrivals}
 use Rattle.timing_types.specs.declared.views.View.{View}
 use Rattle.timing_types.specs.declared.identities.Standing.{Standing}
-use Rattle.sdc_model.specs.ClockIdentity.{merged_form, definition_of, standings_from, mode_standings}
-use Rattle.sdc_model.specs.PlainViews.{IsPrimary, ArePrimary}
+use Rattle.merge_model.specs.ClockIdentity.{merged_form, definition_of, standings_from, mode_standings}
+use Rattle.merge_model.specs.PlainViews.{IsPrimary, ArePrimary}
 
 -- a primary form stays as it is
 pub form_stays : (numbers : List ℕ) (arrivals : Arrivals) (place : ℕ) (form : Form) → IsPrimary form

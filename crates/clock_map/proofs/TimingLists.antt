@@ -3,13 +3,14 @@ use Rattle.std.proofs.Common.{◌≡◌, ℕ, zero, suc, ◌+◌, ◌<◌, ◌�
 use Rattle.std.proofs.lemmas.List.{take_more, take_all, length-take-le}
 use Rattle.std.proofs.lemmas.List.Elements.{All-nil, All-cons}
 use Rattle.timing_types.specs.declared.views.View.{View}
-use Rattle.sdc_model.specs.Exclusive.{IsApart, AreApart}
+use Rattle.constraint_model.specs.ListOrder.{HasEachOnce}
+use Rattle.merge_model.specs.Exclusive.{HaveEachOnce}
 use Rattle.clock_map.specs.declared.timings.Timing.{Timing}
 use Rattle.clock_map.specs.Timings.{ArePlaces, HoldsPairs, IsTiming, AreTimings, FitsClocks, AllFit}
 
-pub apart_at : (maps : List (List ℕ)) (i : ℕ) (numbers : List ℕ) → AreApart maps → i < length maps → numbers ≡ get_or maps i numbers → IsApart numbers
-apart_at maps i numbers apart within is = subst IsApart (sym is) (at_place maps i numbers apart within) where
-  at_place : (maps : List (List ℕ)) (i : ℕ) (d : List ℕ) → AreApart maps → i < length maps → IsApart (get_or maps i d)
+pub distinct_at : (maps : List (List ℕ)) (i : ℕ) (numbers : List ℕ) → HaveEachOnce maps → i < length maps → numbers ≡ get_or maps i numbers → HasEachOnce numbers
+distinct_at maps i numbers apart within is = subst HasEachOnce (sym is) (at_place maps i numbers apart within) where
+  at_place : (maps : List (List ℕ)) (i : ℕ) (d : List ℕ) → HaveEachOnce maps → i < length maps → HasEachOnce (get_or maps i d)
   at_place [] i d apart within = absurd (omega arith)
   at_place (numbers ∷ maps) zero d apart within = apart.0
   at_place (numbers ∷ maps) (suc i) d apart within = at_place maps i d apart.1 (omega arith)

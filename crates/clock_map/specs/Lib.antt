@@ -1,4 +1,4 @@
-pub mod Numbering
-pub mod MergedClocks
-pub mod Timings
 pub mod MapFacts
+pub mod MergedClocks
+pub mod Numbering
+pub mod Timings

@@ -6,9 +6,9 @@ use Rattle.timing_types.specs.declared.clocks.Clock.{Clock}
 use Rattle.timing_types.specs.declared.clocks.Pair.{Pair}
 use Rattle.timing_types.specs.declared.views.View.{View}
 use Rattle.timing_types.specs.declared.views.ClockMap.{ClockMap}
-use Rattle.sdc_model.specs.ClockIdentity.{IsClockMap}
-use Rattle.sdc_model.specs.Exclusive.{AreExclusivePairs}
-use Rattle.sdc_model.specs.PlainViews.{HaveSameClocks}
+use Rattle.merge_model.specs.ClockIdentity.{IsClockMap}
+use Rattle.merge_model.specs.Exclusive.{AreExclusivePairs}
+use Rattle.merge_model.specs.PlainViews.{HaveSameClocks}
 
 -- modes with the same clocks share them all
 abbrev pub SharesEqualModes : List View → ClockMap → Type 0

@@ -5,7 +5,7 @@ use Rattle.std.specs.List.{All, Contains}
 use Rattle.timing_types.specs.declared.clocks.Clock.{Clock}
 use Rattle.timing_types.specs.declared.clocks.Wave.{Wave}
 use Rattle.timing_types.specs.declared.identities.Standing.{Standing}
-use Rattle.sdc_model.specs.ClockIdentity.{IsMergedName, IsMerged, clock_with}
+use Rattle.merge_model.specs.ClockIdentity.{IsMergedName, IsMerged, clock_with}
 use Rattle.clock_map.specs.declared.merged.Merged.{Merged}
 use Rattle.clock_map.specs.Numbering.{RisesTo}
 

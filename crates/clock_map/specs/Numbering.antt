@@ -8,7 +8,7 @@ use Rattle.timing_types.specs.declared.views.View.{View}
 use Rattle.timing_types.specs.declared.identities.Identity.{Identity}
 use Rattle.timing_types.specs.contracts.identities.IdentityOrd.TheImpl as identity_order
 
--- numbers of which those below `next` are known, and `last` behind them all
+-- numbers of which those below `next` are known, and `last` after them all
 abbrev pub RisesTo : ℕ → List ℕ → ℕ → Type 0
 RisesTo next [] last = next ≡ last
 RisesTo next (number ∷ numbers) last =

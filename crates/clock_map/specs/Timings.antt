@@ -53,12 +53,12 @@ AllFit count timings = All (FitsClocks count) timings
 
 -- ---- flags
 
--- so many flags, of which each behind a merged clock says what a test says
+-- so many flags, of which each after a merged clock says what a test says
 abbrev pub AreFlags : ℕ → ℕ → (ℕ → Bool) → List Bool → Type 0
 AreFlags count first says flags =
     (length flags ≡ count) × ((k : ℕ) → first < k → k < count → slice_index_or flags k false ≡ says k)
 
--- of the flags behind a merged clock those that a test names are set, and the others stay
+-- of the flags after a merged clock those that a test names are set, and the others stay
 abbrev pub Marks : ℕ → (ℕ → Bool) → List Bool → List Bool → Type 0
 Marks first says before after =
     (length after ≡ length before)
@@ -80,7 +80,7 @@ abbrev pub others_from : List Bool → ℕ → ℕ → ℕ → List Pair
 others_from timed a b zero = []
 others_from timed a b (suc n) = pair_unless (slice_index_or timed b false) a b ++ others_from timed a (suc b) n
 
--- those with the merged clocks behind it
+-- those with the merged clocks after it
 abbrev pub row : List Timing → ℕ → ℕ → List Pair
 row timings count a = row_from timings a (a + 1) (count - (a + 1))
 

@@ -1,14 +1,14 @@
-//! The clocks of all modes, one mode behind the other.
+//! The clocks of all modes, one mode after the other.
 
 ghost use Rattle.std.specs.Prelude.{◌≡◌, ◌++◌, [], length, IfOk, OnOk};
-ghost use Rattle.sdc_model.specs.ClockIdentity.{standings_of, identities_of};
-ghost use Rattle.sdc_model.specs.PlainViews.{ModesArePrimary, HaveWaves};
+ghost use Rattle.merge_model.specs.ClockIdentity.{standings_of, identities_of};
+ghost use Rattle.merge_model.specs.PlainViews.{ModesArePrimary, HaveWaves};
 
 use crate::ranks::mode_identities;
 use crate::standings::mode_standings;
 use sdc_base::{List, NoMemory};
-use sdc_model::{Identity, Standing, View};
 use std::alloc::Global;
+use timing_types::{Identity, Standing, View};
 
 /// All clocks of the modes, and beside them what makes each of them one with clocks of other modes.
 pub(crate) fn all_clocks(

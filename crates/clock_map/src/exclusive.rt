@@ -2,14 +2,14 @@
 
 ghost use Rattle.std.specs.Prelude.{◌≡◌, ◌<◌, ◌==◌, ◌+◌, ◌-◌, ◌++◌, length, IfOk, OnOk};
 ghost use Rattle.std.specs.List.{filter};
-ghost use Rattle.sdc_model.specs.Exclusive.{AreApart, AreExclusivePairs};
+ghost use Rattle.merge_model.specs.Exclusive.{HaveEachOnce, AreExclusivePairs};
 ghost use Rattle.clock_map.specs.Timings.{AllFit, others_from, row, rows_from};
 
 use crate::timings::{Timing, timed_with, timings_of};
 use sdc_base::{List, NoMemory};
-use sdc_model::{Pair, View};
 use std::alloc::Global;
 use std::marker::Model;
+use timing_types::{Pair, View};
 
 /// The pairs of merged clocks, of which there are `count`, that no mode has both of and lets be timed; in order.
 ///
@@ -22,7 +22,7 @@ pub fn exclusive_pairs(
     count: u32,
 ) -> Result<List<Pair>, NoMemory>
     requires beside { length maps.now ≡ length modes.now }
-    requires apart { AreApart maps.now }
+    requires apart { HaveEachOnce maps.now }
     ensures { IfOk result (AreExclusivePairs modes.now maps.now count) }
 {
     let rows = ExclusiveRows::new(alloc, modes, maps, count)?;
@@ -58,7 +58,7 @@ impl ExclusiveRows {
         count: u32,
     ) -> Result<ExclusiveRows, NoMemory>
         requires beside { length maps.now ≡ length modes.now }
-        requires apart { AreApart maps.now }
+        requires apart { HaveEachOnce maps.now }
         ensures { IfOk result (AreExclusivePairs modes.now maps.now count) }
     {
         let timings = timings_of(alloc, modes, maps, count as usize)?;
@@ -93,7 +93,7 @@ impl ExclusiveRows {
     }
 }
 
-/// Adds the exclusive pairs of one merged clock with those behind it.
+/// Adds the exclusive pairs of one merged clock with those after it.
 fn add_row(
     alloc: Global,
     pairs: &mut List<Pair>,
@@ -110,7 +110,7 @@ fn add_row(
     Ok(())
 }
 
-/// Adds the pairs of a merged clock with those behind it that are not marked.
+/// Adds the pairs of a merged clock with those after it that are not marked.
 fn add_others(
     pairs: &mut List<Pair>,
     timed: &[bool],

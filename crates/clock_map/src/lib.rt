@@ -15,24 +15,23 @@ mod plain_views;
 mod ranks;
 mod rows;
 mod standings;
-#[cfg(test)]
-mod tests;
 mod timings;
 
 ghost use Rattle.std.specs.Prelude.{◌≡◌, ◌≤◌, length, IfOk};
-ghost use Rattle.sdc_model.specs.ClockIdentity.{IsClockMap};
-ghost use Rattle.sdc_model.specs.Exclusive.{AreApart};
-ghost use Rattle.sdc_model.specs.PlainViews.{ArePlain, clock_count};
+ghost use Rattle.merge_model.specs.ClockIdentity.{IsClockMap};
+ghost use Rattle.merge_model.specs.Exclusive.{HaveEachOnce};
+ghost use Rattle.merge_model.specs.PlainViews.{ArePlain, clock_count};
 
 pub use exclusive::{ExclusiveRows, exclusive_pairs};
 pub use map_laws::{
-    clocks_of_a_mode_are_apart, equal_modes_share_clocks, merged_clocks_come_from_modes,
-    merged_clocks_have_one_list_of_pairs, merged_names_are_apart, modes_have_one_map,
+    clocks_of_a_mode_are_distinct, equal_modes_share_clocks, merged_clocks_come_from_modes,
+    merged_clocks_have_one_list_of_pairs, merged_names_are_distinct, modes_have_one_map,
 };
 pub use plain_views::are_plain;
 use sdc_base::{List, NoMemory};
-use sdc_model::{ClockMap, View};
 use std::alloc::Global;
+pub use timing_types::ClockMap;
+use timing_types::View;
 
 /// The merged clocks of several modes, and for each mode the merged clock that each of its clocks is.
 ///
@@ -43,7 +42,7 @@ pub fn map_clocks(alloc: Global, modes: &List<View>) -> Result<ClockMap, NoMemor
     requires { ArePlain modes.now }
     ensures map { IfOk result (IsClockMap modes.now) }
     ensures beside { IfOk result (λ map. length map.maps ≡ length modes.now) }
-    ensures apart { IfOk result (λ map. AreApart map.maps) }
+    ensures apart { IfOk result (λ map. HaveEachOnce map.maps) }
     ensures few { IfOk result (λ map. length map.clocks ≤ clock_count modes.now) }
 {
     let (standings, identities) = all_clocks::all_clocks(alloc, modes)?;

@@ -3,15 +3,15 @@
 ghost use Rattle.std.specs.Prelude.{ℕ, List};
 ghost use Rattle.timing_types.specs.declared.views.View.{View};
 ghost use Rattle.timing_types.specs.declared.views.ClockMap.{ClockMap};
-ghost use Rattle.sdc_model.specs.ClockIdentity.{IsClockMap};
-ghost use Rattle.sdc_model.specs.PlainViews.{ModesArePrimary, HaveWaves};
-ghost use Rattle.sdc_model.specs.Exclusive.{AreApart};
+ghost use Rattle.merge_model.specs.ClockIdentity.{IsClockMap};
+ghost use Rattle.merge_model.specs.PlainViews.{ModesArePrimary, HaveWaves};
+ghost use Rattle.merge_model.specs.Exclusive.{HaveEachOnce};
 ghost use Rattle.clock_map.specs.MapFacts.{SharesEqualModes, ComesFromModes, HasDistinctNames, HaveOneMap, HaveOneListOfPairs};
 
 /// No two clocks of one mode are one merged clock.
-pub fn clocks_of_a_mode_are_apart()
+pub fn clocks_of_a_mode_are_distinct()
     ensures { (views : List View) (map : ClockMap)
-        → HaveWaves views → IsClockMap views map → AreApart map.maps }
+        → HaveWaves views → IsClockMap views map → HaveEachOnce map.maps }
 {}
 
 /// Modes with the same clocks share them all.
@@ -26,7 +26,7 @@ pub fn merged_clocks_come_from_modes()
 {}
 
 /// No two merged clocks have one name.
-pub fn merged_names_are_apart()
+pub fn merged_names_are_distinct()
     ensures { (views : List View) (map : ClockMap) → IsClockMap views map → HasDistinctNames map }
 {}
 

@@ -1,14 +1,14 @@
 //! The merged clocks, each made of the first clock that it is.
 
 ghost use Rattle.std.specs.Prelude.{◌≡◌, ◌≤◌, length, IfOk, OnOk};
-ghost use Rattle.sdc_model.specs.ClockIdentity as identity;
+ghost use Rattle.merge_model.specs.ClockIdentity as identity;
 ghost use Rattle.clock_map.specs.MergedClocks.{HaveSameNames, AddsMerged, Rises, AreMerged};
 
 use crate::names::merged_name;
 use sdc_base::{Duplicate, List, NoMemory, Text};
-use sdc_model::{Clock, Definition, Standing, Wave};
 use std::alloc::Global;
 use std::collections::BTreeSet;
+use timing_types::{Clock, Definition, Standing, Wave};
 
 /// Merged clocks in order, their waveforms, and the names that they have.
 #[derive(Drop)]

@@ -1,7 +1,7 @@
 //! The names of merged clocks.
 
 ghost use Rattle.std.specs.Prelude.{◌≡◌, ◌↔◌, IfOk, IsTrue};
-ghost use Rattle.sdc_model.specs.ClockIdentity as identity;
+ghost use Rattle.merge_model.specs.ClockIdentity as identity;
 ghost use Rattle.clock_map.specs.MergedClocks.{IsTaken};
 
 use itoa::Buffer;

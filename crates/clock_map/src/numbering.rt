@@ -5,9 +5,9 @@ ghost use Rattle.std.specs.BTreeMap.{btree_map_len};
 ghost use Rattle.clock_map.specs.Numbering.{AreNumbers, Numbers};
 
 use sdc_base::{Duplicate, List, NoMemory};
-use sdc_model::Identity;
 use std::alloc::Global;
 use std::collections::BTreeMap;
+use timing_types::Identity;
 
 /// A number for each identity, the same for equal ones alone.
 pub(crate) fn numbers_of(alloc: Global, identities: &List<Identity>) -> Result<List<u32>, NoMemory>

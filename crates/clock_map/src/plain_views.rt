@@ -1,10 +1,10 @@
 //! Whether the clocks of modes can be merged by their own waveforms alone.
 
 ghost use Rattle.std.specs.Prelude.{◌↔◌, IsTrue};
-ghost use Rattle.sdc_model.specs.PlainViews.{IsPrimary, ArePrimary, ArePlain};
+ghost use Rattle.merge_model.specs.PlainViews.{IsPrimary, ArePrimary, ArePlain};
 
 use sdc_base::List;
-use sdc_model::{Clock, Form, View};
+use timing_types::{Clock, Form, View};
 
 /// How many clocks can be numbered.
 const MOST_CLOCKS: u64 = 1 << 32;

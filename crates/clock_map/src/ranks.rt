@@ -2,11 +2,11 @@
 
 ghost use Rattle.std.specs.Prelude.{◌≡◌, IfOk};
 ghost use Rattle.std.specs.List.Sorted.{IsSorted};
-ghost use Rattle.sdc_model.specs.ClockIdentity.{rank_among, identities_among};
+ghost use Rattle.merge_model.specs.ClockIdentity.{rank_among, identities_among};
 
 use sdc_base::{Duplicate, List, NoMemory};
-use sdc_model::{Identity, Standing};
 use std::alloc::Global;
+use timing_types::{Identity, Standing};
 
 /// What makes each of these clocks of a mode one with clocks of other modes.
 pub(crate) fn mode_identities(

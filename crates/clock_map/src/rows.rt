@@ -2,12 +2,12 @@
 
 ghost use Rattle.std.specs.Prelude.{◌≡◌, length, IfOk};
 ghost use Rattle.std.specs.List.{concat};
-ghost use Rattle.sdc_model.specs.PlainViews.{clock_count};
+ghost use Rattle.merge_model.specs.PlainViews.{clock_count};
 ghost use Rattle.clock_map.specs.Numbering.{HaveRows};
 
 use sdc_base::{List, NoMemory};
-use sdc_model::View;
 use std::alloc::Global;
+use timing_types::View;
 
 /// For each mode the numbers of its clocks, of those of all clocks.
 pub(crate) fn rows_of(

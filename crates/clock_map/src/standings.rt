@@ -1,12 +1,12 @@
 //! The clocks of one mode, as the ranks of the mode see them.
 
 ghost use Rattle.std.specs.Prelude.{◌≡◌, [], length, IfOk};
-ghost use Rattle.sdc_model.specs.ClockIdentity as identity;
-ghost use Rattle.sdc_model.specs.PlainViews.{ArePrimary};
+ghost use Rattle.merge_model.specs.ClockIdentity as identity;
+ghost use Rattle.merge_model.specs.PlainViews.{ArePrimary};
 
 use sdc_base::{Duplicate, List, NoMemory};
-use sdc_model::{Clock, Definition, Standing, View, Wave};
 use std::alloc::Global;
+use timing_types::{Clock, Definition, Standing, View, Wave};
 
 /// The clocks of a mode in order of definition.
 pub(crate) fn mode_standings(alloc: Global, view: &View) -> Result<List<Standing>, NoMemory>

@@ -2,13 +2,14 @@
 
 ghost use Rattle.std.specs.Prelude.{◌≡◌, ◌<◌, ◌==◌, ◌&&◌, not, length, vec_len, min, max, IfOk};
 ghost use Rattle.std.specs.List.{list_any};
-ghost use Rattle.sdc_model.specs.Exclusive.{IsApart, AreApart};
+ghost use Rattle.constraint_model.specs.ListOrder.{HasEachOnce};
+ghost use Rattle.merge_model.specs.Exclusive.{HaveEachOnce};
 ghost use Rattle.clock_map.specs.Timings.{same_pair, ArePlaces, HoldsPairs, AreTimings, FitsClocks, AllFit, AreFlags, Marks, lets_time};
 
 use sdc_base::{Duplicate, List, NoMemory};
-use sdc_model::{Pair, View};
 use std::alloc::Global;
 use std::collections::HashSet;
+use timing_types::{Pair, View};
 
 /// What a mode says of merged clocks: which of its clocks each of them is, which of them each of its clocks is, and
 /// its exclusive pairs.
@@ -27,7 +28,7 @@ pub fn timings_of(
     count: usize,
 ) -> Result<Vec<Timing>, NoMemory>
     requires beside { length maps.now ≡ length modes.now }
-    requires apart { AreApart maps.now }
+    requires apart { HaveEachOnce maps.now }
     ensures { IfOk result (λ timings. AreTimings count modes.now maps.now timings.items) }
 {
     let maps = maps.as_slice();
@@ -51,7 +52,7 @@ fn places_of(
     numbers: &List<u32>,
     count: usize,
 ) -> Result<Vec<Option<usize>>, NoMemory>
-    requires { IsApart numbers.now }
+    requires { HasEachOnce numbers.now }
     ensures { IfOk result (λ places. ArePlaces count numbers.now places.items) }
 {
     let mut places = vec![in alloc; None; count]?;
@@ -75,7 +76,7 @@ fn pairs_in(alloc: Global, pairs: &List<Pair>) -> Result<HashSet<(usize, usize)>
     Ok(set)
 }
 
-/// A flag for each of so many merged clocks: behind one of them, whether some mode has both and lets them be timed.
+/// A flag for each of so many merged clocks: after one of them, whether some mode has both and lets them be timed.
 pub fn timed_with(
     alloc: Global,
     timings: &[Timing],
@@ -94,7 +95,7 @@ pub fn timed_with(
     Ok(timed)
 }
 
-/// Marks the merged clocks behind one that a mode has, too, and lets be timed with it.
+/// Marks the merged clocks after one that a mode has, too, and lets be timed with it.
 fn mark_timed(timed: &mut [bool], timing: &Timing, first: usize)
     requires within { first < length timed.old }
     requires fits { FitsClocks (length timed.old) timing.now }
@@ -109,7 +110,7 @@ fn mark_timed(timed: &mut [bool], timing: &Timing, first: usize)
     }
 }
 
-/// Marks a merged clock, where it is behind the first one, and the pair of both is not exclusive.
+/// Marks a merged clock, where it is after the first one, and the pair of both is not exclusive.
 fn mark(
     timed: &mut [bool],
     exclusive: &HashSet<(usize, usize)>,

@@ -1,3 +1,3 @@
 pub mod Divisor
-pub mod Gaps
 pub mod Remainder
+pub mod Separations

@@ -6,9 +6,9 @@ use Rattle.std.proofs.Math.Nat.{div-add-mod, mul-le-mul_left, pos_of_dvd_of_pos}
 use Rattle.std.proofs.lemmas.Int.{ints, int_rem_euclid_is, to_z-of_z}
 use Rattle.std.proofs.lemmas.Nat.Gcd.{le_of_dvd}
 use Rattle.std.specs.Int.{IsGcd, IsNonNegative, int_rem_euclid}
-use Rattle.sdc_model.specs.Relation.{IsEdgeOf, IsRelation}
+use Rattle.timing_model.specs.Relation.{IsEdgeOf, IsRelation}
 use Rattle.timing_types.specs.declared.edge_times.Relation.{Relation}
-use Rattle.clock_tree.proofs.Gaps.{IsShifted, IsRelation-from_shifted}
+use Rattle.clock_tree.proofs.Separations.{IsShifted, IsRelation-from_shifted}
 
 -- one more than the remainder, in ℕ: m is `b - a - 1`, with so many g that it is no less than 0
 next : (a b g m k t : ℕ) (s : ℤ) → m + a + 1 ≡ b + (a + 1) * g → g * k + t ≡ m → s ≡ pos (t + 1) → s +ℤ pos (a + k * g) ≡ pos (b + (a + 1) * g)

@@ -1,5 +1,5 @@
 //! What is true of every relation of two edges, whoever found it.
-ghost use Rattle.sdc_model.specs.Relation.{IsEdgeOf, IsRelation};
+ghost use Rattle.timing_model.specs.Relation.{IsEdgeOf, IsRelation};
 ghost use Rattle.timing_types.specs.declared.edge_times.Relation.{Relation};
 ghost use Rattle.std.specs.Int.{IsGcd};
 ghost use Rattle.std.specs.Prelude.{◌≡◌, ℕ, ℤ, pos};

@@ -1,8 +1,8 @@
 //! The setup and the hold relation of two clock edges.
-ghost use Rattle.sdc_model.specs.Relation.{IsEdgeOf, IsRelation};
+ghost use Rattle.timing_model.specs.Relation.{IsEdgeOf, IsRelation};
 
 use crate::common_divisor::greatest_common_divisor;
-use sdc_model::Relation;
+use timing_types::Relation;
 
 /// The relation of a launch edge at `a`, of a clock of period `p`, and a capture edge at `b`, of period `q`.
 ///

@@ -3,7 +3,7 @@
 use crate::shown::{Part, ROW_LIBRARY, shows};
 use std::test::Fail;
 
-/// Two registers, one behind the other.
+/// Two registers, one after the other.
 const TWO_REGISTERS: &str = "module top (clk, d, q); input clk, d; output q; wire n1; \
     DFF r1 (.D(d), .CK(clk), .Q(n1)); DFF r2 (.D(n1), .CK(clk), .Q(q)); endmodule";
 
@@ -61,7 +61,7 @@ static PINS: [(&str, &str); 8] = [
         "module top (b, a); input a; output b; assign b = a; endmodule",
         " b=a a",
     ),
-    // the top may stand behind modules that it does not use
+    // the top may stand after modules that it does not use
     (
         "module other; NAND9 u (); endmodule module top (a); input a; endmodule",
         " a",
@@ -114,13 +114,13 @@ static NETS: [(&str, &str); 7] = [
         "module top; supply0 [1:0] g; supply1 p; endmodule",
         " g[1]=0 g[0]=0 p=1",
     ),
-    // the source of a net is that of the net that feeds it
+    // the source of a net is that of the net that drives it
     (
         "module top (p, o); input p; output o; wire w1, w2; AND2 a (.A(p), .B(w2), .Z(w1)); \
         AND2 b (.A(w1), .B(p), .Z(w2)); assign o = w1; endmodule",
         " p=p o=a/Z w1=a/Z w2=b/Z",
     ),
-    // an output port of an inner module feeds the net outside
+    // an output port of an inner module drives the net outside
     (
         "module top (o); output o; wire x; one u (.o(x)); assign o = x; endmodule \
         module one (o); output o; assign o = 1'b1; endmodule",

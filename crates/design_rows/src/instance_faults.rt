@@ -187,7 +187,7 @@ static LIBRARIES: [(&str, &str, &str); 12] = [
         "module top; C u (); endmodule",
         "1: BadName",
     ),
-    // of two outputs of one name the first feeds the net, which has one source
+    // of two outputs of one name the first drives the net, which has one source
     (
         "library (a) { cell (C) { pin (Z) { direction : output; } pin (Z) { direction : output; } } }",
         "module top; C\nu (.Z(n)); endmodule",

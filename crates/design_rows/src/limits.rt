@@ -52,7 +52,7 @@ static DOUBLINGS: [(&str, u32, &str, &str); 6] = [
         "",
         "0: TooMany",
     ),
-    // a fault of an instance stands before, one of a net behind
+    // a fault of an instance stands before, one of a net after
     (
         "module top; m1 a (); m1 b ();\nNAND9 c (); endmodule ",
         19,
@@ -84,7 +84,7 @@ fn instances_doubled(rt: HostRuntime) -> Result<(), Fail> {
 }
 
 /// A top and modules c1 up to a last one, each with one instance of the next, and with what stands in the last, on the
-/// level behind the last one's number.
+/// level after the last one's number.
 fn chain(alloc: Global, last: u32, inside: &str) -> Result<String, NoMemory> {
     let mut text = String::from_str(alloc, "module top; c1 u (); endmodule ")?;
     for level in 1..last {

@@ -44,7 +44,7 @@ static NETS: [(&str, &str); 32] = [
         "module top; supply0 g; assign g = 1'b0; endmodule",
         "1: TwoDrivers",
     ),
-    // a net that is fed by itself
+    // a net that is driven by itself
     (
         "module top; wire a; assign a = a; endmodule",
         "1: AssignCycle",
@@ -78,7 +78,7 @@ static NETS: [(&str, &str); 32] = [
         assign o = b; assign b = c; assign c = b; endmodule",
         "2: AssignCycle",
     ),
-    // nor have the bits of a vector that lead to its last one, which feeds itself
+    // nor have the bits of a vector that lead to its last one, which drives itself
     (
         "module top; wire [9:0] a; assign a[9:1] = a[8:0]; assign a[0] = a[0]; endmodule",
         "1: AssignCycle",

@@ -2,11 +2,12 @@
 
 use flat_design::flatten;
 use lib_cells::read_lib;
+use library_laws::read_libraries_can_be_used;
+use netlist_laws::read_netlists_can_be_flattened;
 use sdc_base::{NoMemory, Stop, Text};
-use sdc_laws::{read_libraries_can_be_used, read_netlists_can_be_flattened};
-use sdc_model::{Design, Source};
 use std::alloc::Global;
 use std::process::Abort;
+use timing_types::{Design, Source};
 use verilog_net::read_verilog;
 
 /// The library of the rows: a register, a buffer, an inverter, an and, and a multiplexer.
@@ -158,7 +159,7 @@ pub fn show_design(
         return text_of(alloc, "no netlist");
     };
     let top = Text::from_str(alloc, "top")?;
-    match flatten(alloc, modules.as_slice(), &library, &top) {
+    match flatten(alloc, &modules, &library, &top) {
         Ok(design) => show_part(alloc, part, &design),
         Err(Stop::Refused(fault)) => {
             let shown = format!(in alloc; "{}: {:?}", fault.line, fault.kind)?;

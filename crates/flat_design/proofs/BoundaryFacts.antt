@@ -12,20 +12,20 @@ use Rattle.source_types.specs.declared.netlists.Links.TheVariants as links
 use Rattle.source_types.specs.declared.netlists.Module.{Module}
 use Rattle.source_types.specs.declared.netlists.Port.{Port}
 use Rattle.source_types.specs.declared.netlists.Wire.{Wire}
-use Rattle.sdc_model.specs.Connections.{bits_named, connected, named_bits, names_of, ordered_bits, ports_of}
-use Rattle.sdc_model.specs.FlatNets.{port_bits, port_feeds}
-use Rattle.sdc_model.specs.Instances.{Placed, Spot}
-use Rattle.sdc_model.specs.WellFormedNetlist.{IsBitOf, IsNetOfPort, IsWellFormedModule, linked}
-use Rattle.sdc_model.specs.Ranges.{width}
-use Rattle.sdc_model.specs.Words.{same_text}
-use Rattle.sdc_model.proofs.ListFacts.{all_at, contains_at, front_at}
-use Rattle.flat_design.specs.declared.feeds.FeedRow.{FeedRow}
-use Rattle.flat_design.specs.declared.hierarchy.Hierarchy.{Hierarchy}
-use Rattle.flat_design.specs.declared.layout.Outer.{Outer}
-use Rattle.flat_design.specs.Feeds.{Adds, HasBit, HasPort, IsFeed}
-use Rattle.flat_design.specs.Hierarchy.{IsHierarchy, spots_in}
-use Rattle.flat_design.specs.declared.terminals.Terminals.{Terminals}
-use Rattle.flat_design.specs.Layout.{IsPlaced}
+use Rattle.flat_model.specs.Connections.{bits_named, connected, named_bits, names_of, ordered_bits, ports_of}
+use Rattle.flat_model.specs.FlatNets.{port_bits, port_drivers}
+use Rattle.flat_model.specs.Instances.{Placed, ModuleInstance}
+use Rattle.netlist_model.specs.WellFormedNetlist.{IsBitOf, IsNetOfPort, IsWellFormedModule, linked}
+use Rattle.netlist_model.specs.Ranges.{width}
+use Rattle.text_model.specs.Words.{same_text}
+use Rattle.text_model.proofs.ListFacts.{all_at, contains_at, front_at}
+use Rattle.flat_design.specs.declared.drivers.driver_edges.DriverEdge.{DriverEdge}
+use Rattle.flat_design.specs.declared.elaborate.hierarchy.Hierarchy.{Hierarchy}
+use Rattle.flat_design.specs.declared.elaborate.elaboration.Outer.{Outer}
+use Rattle.flat_design.specs.Drivers.{Adds, HasBit, HasPort, IsDriverEdge}
+use Rattle.flat_design.specs.Hierarchy.{IsHierarchy, scopes_in}
+use Rattle.flat_design.specs.declared.elaborate.terminals.Terminals.{Terminals}
+use Rattle.flat_design.specs.Elaboration.{IsPlaced}
 use Rattle.flat_design.specs.Tables.{IsTerminals}
 use Rattle.flat_design.proofs.HierarchyFacts.{one_at}
 use Rattle.flat_design.proofs.NumberFacts.{flat_at}
@@ -43,9 +43,9 @@ zip_none : (xs : List Bit) → zip xs none_of_bits ≡ []
 zip_none [] = refl
 zip_none (x ∷ xs) = refl
 
-pub no_feeds : (design : Hierarchy) (inside outside : List ℕ) (port : Port) (rows : List FeedRow) → Adds design (port_feeds inside outside (port, [])) rows rows
-no_feeds design inside outside port rows =
-    subst (λ pairs. Adds design (filter_map (pair_across port inside outside) pairs) rows rows) (sym (zip_none (port_bits port))) (rows_none (IsFeed design) rows)
+pub no_drivers : (design : Hierarchy) (inside outside : List ℕ) (port : Port) (rows : List DriverEdge) → Adds design (port_drivers inside outside (port, [])) rows rows
+no_drivers design inside outside port rows =
+    subst (λ pairs. Adds design (filter_map (pair_across port inside outside) pairs) rows rows) (sym (zip_none (port_bits port))) (rows_none (IsDriverEdge design) rows)
 
 -- ---- what is connected is among what is linked
 
@@ -93,23 +93,23 @@ connected_all P names (links.Named all) each n own at =
 
 -- each bit that is connected is one of the module around
 pub bits_there : (design : Hierarchy) (at : Outer) (placed : Placed) (names : List (List ℕ)) (n : ℕ) (own : List Bit) → IsHierarchy design
-    → IsPlaced (spots_in design) placed at → slice_get (connected names placed.instance.links) n ≡ Some own → All (HasBit design at.spot) own
+    → IsPlaced (scopes_in design) placed at → slice_get (connected names placed.instance.links) n ≡ Some own → All (HasBit design at.scope) own
 bits_there design at placed names n own is there found =
-    let formed : IsWellFormedModule placed.spot.body = is.formed at.spot placed.spot there.spot in
-    let each : All (IsBitOf placed.spot.body.nets) (linked placed.instance.links) =
-    all_at (λ (i : Instance). All (IsBitOf placed.spot.body.nets) (linked i.links)) placed.spot.body.instances at.instance placed.instance formed.instances there.instance in
-    All-weaker (IsBitOf placed.spot.body.nets) (HasBit design at.spot) (λ bit of. (placed.spot, there.spot, of)) own
-    (connected_all (IsBitOf placed.spot.body.nets) names placed.instance.links each n own found)
+    let formed : IsWellFormedModule placed.scope.body = is.formed at.scope placed.scope there.scope in
+    let each : All (IsBitOf placed.scope.body.nets) (linked placed.instance.links) =
+    all_at (λ (i : Instance). All (IsBitOf placed.scope.body.nets) (linked i.links)) placed.scope.body.instances at.instance placed.instance formed.instances there.instance in
+    All-weaker (IsBitOf placed.scope.body.nets) (HasBit design at.scope) (λ bit of. (placed.scope, there.scope, of)) own
+    (connected_all (IsBitOf placed.scope.body.nets) names placed.instance.links each n own found)
 
--- a port of a module that stands at a place is one of its nets
-pub port_there : (design : Hierarchy) (place n : ℕ) (spot : Spot) (port : Port) → IsHierarchy design → slice_get (spots_in design) place ≡ Some spot
-    → slice_get spot.body.ports n ≡ Some port → HasPort design place port
-port_there design place n spot port is at found =
-    let formed : IsWellFormedModule spot.body = is.formed place spot at in
+-- a port of a module instance at a place is one of its nets
+pub port_there : (design : Hierarchy) (place n : ℕ) (scope : ModuleInstance) (port : Port) → IsHierarchy design → slice_get (scopes_in design) place ≡ Some scope
+    → slice_get scope.body.ports n ≡ Some port → HasPort design place port
+port_there design place n scope port is at found =
+    let formed : IsWellFormedModule scope.body = is.formed place scope at in
     let own = formed.ports in
-    let wire = zip_at IsNetOfPort spot.body.ports own.0 own.3 n port found in
-    let net_at : slice_get spot.body.nets n ≡ Some wire.0 = ap (λ (nets : List Wire). slice_get nets n) own.2 ∙ front_at own.0 own.1 n wire.0 wire.1 in
-    (spot, at, (wire.0, contains_at spot.body.nets n wire.0 net_at, wire.2.0, wire.2.1))
+    let wire = zip_at IsNetOfPort scope.body.ports own.0 own.3 n port found in
+    let net_at : slice_get scope.body.nets n ≡ Some wire.0 = ap (λ (nets : List Wire). slice_get nets n) own.2 ∙ front_at own.0 own.1 n wire.0 wire.1 in
+    (scope, at, (wire.0, contains_at scope.body.nets n wire.0 net_at, wire.2.0, wire.2.1))
 
 -- ---- terminals by place
 

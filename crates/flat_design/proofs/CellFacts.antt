@@ -1,28 +1,28 @@
--- What a pin of a cell feeds, by its direction.
+-- What a pin of a cell drives, by its direction.
 use Rattle.std.proofs.Common.{◌≡◌, ℕ, zero, suc, List, [], ◌∷◌, map, slice_get, Some, None, refl, ap, subst}
 use Rattle.std.specs.List.{AllZip, filter_map}
-use Rattle.source_types.specs.declared.library_cells.Direction.TheVariants as direction
-use Rattle.source_types.specs.declared.library_cells.LibCell.{LibCell}
-use Rattle.source_types.specs.declared.library_cells.LibPin.{LibPin}
+use Rattle.pin_types.specs.declared.library_cells.Direction.TheVariants as direction
+use Rattle.pin_types.specs.declared.library_cells.LibCell.{LibCell}
+use Rattle.pin_types.specs.declared.library_cells.LibPin.{LibPin}
 use Rattle.source_types.specs.declared.netlists.Bit.{Bit}
-use Rattle.sdc_model.specs.Connections.{names_of, pins_of}
-use Rattle.sdc_model.specs.FlatNets.{output_feeds}
-use Rattle.sdc_model.specs.Instances.{PlacedCell}
-use Rattle.flat_design.specs.declared.terminals.Terminals.{Terminals}
-use Rattle.flat_design.specs.Feeds.{pin_feed}
+use Rattle.flat_model.specs.Connections.{names_of, pins_of}
+use Rattle.flat_model.specs.FlatNets.{output_drivers}
+use Rattle.flat_model.specs.Instances.{PlacedCell}
+use Rattle.flat_design.specs.declared.elaborate.terminals.Terminals.{Terminals}
+use Rattle.flat_design.specs.Drivers.{pin_drive}
 use Rattle.flat_design.specs.Tables.{IsTerminals}
 use Rattle.flat_design.proofs.HierarchyFacts.{one_at}
 use Rattle.flat_design.proofs.TerminalFacts.{zip_at}
 
-pub fed_by_input : (cell : PlacedCell) (at : ℕ) (pin : LibPin) (own : List Bit) → pin.direction ≡ direction.Input → output_feeds cell ((at, pin), own) ≡ []
-fed_by_input cell at pin own is = rw (output_feeds, is) refl
+pub driven_by_input : (cell : PlacedCell) (at : ℕ) (pin : LibPin) (own : List Bit) → pin.direction ≡ direction.Input → output_drivers cell ((at, pin), own) ≡ []
+driven_by_input cell at pin own is = rw (output_drivers, is) refl
 
-pub fed_by_other : (cell : PlacedCell) (at : ℕ) (pin : LibPin) (own : List Bit) → pin.direction ≡ direction.Other → output_feeds cell ((at, pin), own) ≡ []
-fed_by_other cell at pin own is = rw (output_feeds, is) refl
+pub driven_by_other : (cell : PlacedCell) (at : ℕ) (pin : LibPin) (own : List Bit) → pin.direction ≡ direction.Other → output_drivers cell ((at, pin), own) ≡ []
+driven_by_other cell at pin own is = rw (output_drivers, is) refl
 
-pub fed_by_output : (cell : PlacedCell) (at : ℕ) (pin : LibPin) (own : List Bit) → pin.direction ≡ direction.Output
-    → output_feeds cell ((at, pin), own) ≡ filter_map (pin_feed cell at) own
-fed_by_output cell at pin own is = rw (output_feeds, is) refl
+pub driven_by_output : (cell : PlacedCell) (at : ℕ) (pin : LibPin) (own : List Bit) → pin.direction ≡ direction.Output
+    → output_drivers cell ((at, pin), own) ≡ filter_map (pin_drive cell at) own
+driven_by_output cell at pin own is = rw (output_drivers, is) refl
 
 -- ---- terminals by place
 

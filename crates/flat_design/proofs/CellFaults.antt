@@ -4,16 +4,16 @@ use Rattle.std.proofs.lemmas.Bool.Decides.{nat_tests}
 use Rattle.std.proofs.lemmas.List.{take-map}
 use Rattle.std.proofs.lemmas.Option.{slice_get_within}
 use Rattle.std.specs.List.{list_any}
-use Rattle.source_types.specs.declared.library_cells.LibCell.{LibCell}
-use Rattle.source_types.specs.declared.library_cells.LibPin.{LibPin}
-use Rattle.sdc_model.specs.FlatDesign.{FlatCell, port_pins}
-use Rattle.sdc_model.specs.FlatFaults.{HasBadPin, HasPinTwice, cell_pin_name, flat_pin_name, is_among}
-use Rattle.sdc_model.specs.Instances.{PlacedCell}
-use Rattle.sdc_model.specs.WellFormedDesign.{is_good_name}
-use Rattle.sdc_model.proofs.ListFacts.{element_at}
-use Rattle.flat_design.specs.declared.hierarchy.Hierarchy.{Hierarchy}
-use Rattle.flat_design.specs.declared.layout.CellRow.{CellRow}
-use Rattle.flat_design.specs.declared.name_marks.NameMarks.{NameMarks}
+use Rattle.pin_types.specs.declared.library_cells.LibCell.{LibCell}
+use Rattle.pin_types.specs.declared.library_cells.LibPin.{LibPin}
+use Rattle.flat_model.specs.FlatDesign.{FlatCell, port_pins}
+use Rattle.flat_model.specs.FlatFaults.{HasBadPin, HasPinTwice, cell_pin_name, flat_pin_name, is_among}
+use Rattle.flat_model.specs.Instances.{PlacedCell}
+use Rattle.text_model.specs.Names.{is_good_name}
+use Rattle.text_model.proofs.ListFacts.{element_at}
+use Rattle.flat_design.specs.declared.elaborate.hierarchy.Hierarchy.{Hierarchy}
+use Rattle.flat_design.specs.declared.elaborate.elaboration.CellRow.{CellRow}
+use Rattle.flat_design.specs.declared.names.name_marks.NameMarks.{NameMarks}
 use Rattle.flat_design.specs.Hierarchy.{IsHierarchy, cell_name, cells_in, pins_of_design}
 use Rattle.flat_design.specs.NamedFaults.{AreMarks, HasMark, HasUnnamed, Tells, flat_of}
 use Rattle.flat_design.proofs.CellPlaces.{cell_back, names_before, pin_named_at, pins_fit, row_says}
@@ -22,10 +22,10 @@ use Rattle.flat_design.proofs.RangeFacts.{map_at}
 
 -- ---- tests
 
--- what is behind a test that failed
-pub tells_behind : (found : Bool) (First Rest : Type 0) → (First → ⊥) → Tells found Rest → Tells found (First ⊎ Rest)
-tells_behind true First Rest none has = inr has
-tells_behind false First Rest none has = λ either. elim either [ inl first ↦ none first | inr rest ↦ has rest ]
+-- what is after a test that failed
+pub tells_after : (found : Bool) (First Rest : Type 0) → (First → ⊥) → Tells found Rest → Tells found (First ⊎ Rest)
+tells_after true First Rest none has = inr has
+tells_after false First Rest none has = λ either. elim either [ inl first ↦ none first | inr rest ↦ has rest ]
 
 -- the same said in other words
 pub tells_same : (found : Bool) (Said Meant : Type 0) → (Said → Meant) → (Meant → Said) → Tells found Said → Tells found Meant
@@ -33,8 +33,8 @@ tells_same true Said Meant to from has = to has
 tells_same false Said Meant to from has = λ meant. has (from meant)
 
 tells_either : (found later : Bool) (Here Later : Type 0) → Tells found Here → Tells later Later → Tells (found || later) (Here ⊎ Later)
-tells_either true later Here Later here behind = inl here
-tells_either false later Here Later none behind = tells_behind later Here Later none behind
+tells_either true later Here Later here after = inl here
+tells_either false later Here Later none after = tells_after later Here Later none after
 
 tells_empty : (name : List ℕ) → Tells (nat_eq (length name) 0) (name ≡ [])
 tells_empty [] = refl
@@ -42,7 +42,7 @@ tells_empty (byte ∷ name) =
     let no : nat_eq (length (byte ∷ name)) 0 ≡ false = grind (arith, nat_tests) in
     subst (λ (found : Bool). Tells found (byte ∷ name ≡ [])) (sym no) (λ same. let bad : byte ∷ name ≡ [] = same in cc)
 
--- an empty name is that of the first pin, or of one behind it
+-- an empty name is that of the first pin, or of one after it
 unnamed_or : (pin : LibPin) (pins : List LibPin) → (pin.name ≡ []) ⊎ HasUnnamed pins → HasUnnamed (pin ∷ pins)
 unnamed_or pin pins (inl here) = (0, pin, refl, here)
 unnamed_or pin pins (inr later) = (suc later.0, later.1, later.2, later.3)
@@ -165,17 +165,17 @@ marked_bad design n cell marks cell_is are has = marked_one design n cell marks 
 -- ---- what is told by the row of a cell
 
 -- the marks of the pins of a cell are there
-pub row_fits : (design : Hierarchy) (n : ℕ) (row : CellRow) (kind : LibCell) (marks : List Bool) → IsHierarchy design → slice_get design.layout.cells n ≡ Some row
+pub row_fits : (design : Hierarchy) (n : ℕ) (row : CellRow) (kind : LibCell) (marks : List Bool) → IsHierarchy design → slice_get design.elaboration.cells n ≡ Some row
     → ((cell : PlacedCell) → slice_get (cells_in design) n ≡ Some cell → kind ≡ cell.kind) → length marks ≡ length (map flat_pin_name (pins_of_design design))
     → row.first_pin + length kind.pins ≤ length marks
 row_fits design n row kind marks is row_at kind_is count =
-    let known = is.layout.cells n row row_at in
+    let known = is.elaboration.cells n row row_at in
     let fit = pins_fit design n known.cell known.at in
     let own = ap (λ (one : LibCell). length one.pins) (kind_is known.cell known.at) in
     omega (arith, fit, own, known.first, count)
 
 pub twice_told : (design : Hierarchy) (n : ℕ) (row : CellRow) (kind : LibCell) (cell : FlatCell) (marks : NameMarks) (found : Bool) → IsHierarchy design
-    → slice_get design.layout.cells n ≡ Some row → ((one : PlacedCell) → slice_get (cells_in design) n ≡ Some one → kind ≡ one.kind)
+    → slice_get design.elaboration.cells n ≡ Some row → ((one : PlacedCell) → slice_get (cells_in design) n ≡ Some one → kind ≡ one.kind)
     → AreMarks (map flat_pin_name (pins_of_design design)) marks → slice_get (flat_of design).cells n ≡ Some cell
     → Tells found (HasMark marks.repeats row.first_pin (length kind.pins) true) → Tells found (HasPinTwice (flat_of design) cell)
 twice_told design n row kind cell marks found is row_at kind_is are at told =
@@ -187,7 +187,7 @@ twice_told design n row kind cell marks found is row_at kind_is are at told =
     (subst (λ (count : ℕ). Tells found (HasMark marks.repeats row.first_pin count true)) own told))
 
 pub bad_told : (design : Hierarchy) (n : ℕ) (row : CellRow) (kind : LibCell) (cell : FlatCell) (marks : NameMarks) (found : Bool) → IsHierarchy design
-    → slice_get design.layout.cells n ≡ Some row → ((one : PlacedCell) → slice_get (cells_in design) n ≡ Some one → kind ≡ one.kind)
+    → slice_get design.elaboration.cells n ≡ Some row → ((one : PlacedCell) → slice_get (cells_in design) n ≡ Some one → kind ≡ one.kind)
     → AreMarks (map flat_pin_name (pins_of_design design)) marks → slice_get (flat_of design).cells n ≡ Some cell
     → Tells found (HasUnnamed kind.pins ⊎ HasMark marks.good row.first_pin (length kind.pins) false) → Tells found (HasBadPin cell)
 bad_told design n row kind cell marks found is row_at kind_is are at told =

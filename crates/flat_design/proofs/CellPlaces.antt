@@ -2,16 +2,16 @@
 use Rattle.std.proofs.Common.{◌≡◌, ◌+◌, ◌≤◌, ℕ, zero, suc, List, [], ◌∷◌, ◌++◌, length, map, take, slice_get, codes, Some, None, refl, sym, ◌∙◌, ap, arith}
 use Rattle.std.proofs.lemmas.List.{length-append, length-map}
 use Rattle.std.specs.List.{flat_map}
-use Rattle.source_types.specs.declared.library_cells.LibPin.{LibPin}
-use Rattle.sdc_model.specs.FlatDesign.{FlatCell, cells_from, pin_name, port_pins}
-use Rattle.sdc_model.specs.FlatFaults.{flat_pin_name}
-use Rattle.sdc_model.specs.Instances.{PlacedCell}
-use Rattle.flat_design.specs.declared.hierarchy.Hierarchy.{Hierarchy}
-use Rattle.flat_design.specs.declared.layout.CellRow.{CellRow}
+use Rattle.pin_types.specs.declared.library_cells.LibPin.{LibPin}
+use Rattle.flat_model.specs.FlatDesign.{FlatCell, cells_from, pin_name, port_pins}
+use Rattle.flat_model.specs.FlatFaults.{flat_pin_name}
+use Rattle.flat_model.specs.Instances.{PlacedCell}
+use Rattle.flat_design.specs.declared.elaborate.hierarchy.Hierarchy.{Hierarchy}
+use Rattle.flat_design.specs.declared.elaborate.elaboration.CellRow.{CellRow}
 use Rattle.flat_design.specs.Hierarchy.{IsHierarchy, cell_name, cells_in, pins_of_design, port_names}
-use Rattle.flat_design.specs.Layout.{kind_pins, pins_in}
+use Rattle.flat_design.specs.Elaboration.{kind_pins, pins_in}
 use Rattle.flat_design.specs.NamedFaults.{flat_of}
-use Rattle.flat_design.proofs.NumberFacts.{behind_at, flat_at}
+use Rattle.flat_design.proofs.NumberFacts.{after_at, flat_at}
 use Rattle.flat_design.proofs.PinCounts.{parts_le, pins_length}
 use Rattle.flat_design.proofs.PinFacts.{all_names_are, names_of_pins, ports_names_are}
 use Rattle.flat_design.proofs.PlaceFacts.{parts_more}
@@ -41,7 +41,7 @@ cell_there first (c ∷ cells) (suc n) cell at =
     let plus : first + length c.kind.pins + pins_in (take n cells) ≡ first + pins_in (c ∷ take n cells) = omega (arith, long) in
     cell_there (first + length c.kind.pins) cells n cell at ∙ ap (λ (k : ℕ). Some (flat_cell cell k)) plus
 
--- a cell stands behind the pins of those before it
+-- a cell stands after the pins of those before it
 pub cell_back : (first : ℕ) (cells : List PlacedCell) (n : ℕ) (cell : FlatCell) → slice_get (cells_from first cells) n ≡ Some cell
     → (slice_get cells n ≡ Some cell.is) × (cell.first ≡ first + pins_in (take n cells))
 cell_back first [] n cell at = let bad : None ≡ Some cell = at in cc
@@ -74,7 +74,7 @@ names_count (cell ∷ cells) =
     let own : length (names_of_pins cell) ≡ length cell.kind.pins = length-map cell.kind.pins (λ (pin : LibPin). cell_name cell ++ (codes "/" ++ pin.name)) in
     omega (arith, rest, a, b, own)
 
--- the name of a pin of a cell stands behind those of the ports and of the cells before it
+-- the name of a pin of a cell stands after those of the ports and of the cells before it
 pub pin_named_at : (design : Hierarchy) (n at : ℕ) (cell : PlacedCell) (pin : LibPin) → slice_get (cells_in design) n ≡ Some cell → slice_get cell.kind.pins at ≡ Some pin
     → slice_get (map flat_pin_name (pins_of_design design)) (length (port_pins design.top.now) + pins_in (take n (cells_in design)) + at) ≡ Some (pin_name cell pin)
 pin_named_at design n at cell pin cell_is pin_is =
@@ -89,7 +89,7 @@ pin_named_at design n at cell pin cell_is pin_is =
     map_at (λ (one : LibPin). cell_name cell ++ (codes "/" ++ one.name)) cell.kind.pins at pin pin_is in
     ap (λ (names : List (List ℕ)). slice_get names (length (port_pins top) + pins_in (take n cells) + at)) (sym (all_names_are design.modules.now design.library.now top))
     ∙ (ap (slice_get (port_names top.ports ++ flat_map names_of_pins cells)) place
-    ∙ behind_at (port_names top.ports) (flat_map names_of_pins cells) (length (flat_map names_of_pins (take n cells)) + at) (pin_name cell pin)
+    ∙ after_at (port_names top.ports) (flat_map names_of_pins cells) (length (flat_map names_of_pins (take n cells)) + at) (pin_name cell pin)
     (flat_at names_of_pins cells n at cell (pin_name cell pin) cell_is own))
 
 -- the pins of a cell are among all pins
@@ -106,10 +106,10 @@ pins_fit design n cell at =
 -- ---- rows
 
 -- what the row of a cell says of the flat cell
-pub row_says : (design : Hierarchy) (n : ℕ) (row : CellRow) (cell : FlatCell) → IsHierarchy design → slice_get design.layout.cells n ≡ Some row
+pub row_says : (design : Hierarchy) (n : ℕ) (row : CellRow) (cell : FlatCell) → IsHierarchy design → slice_get design.elaboration.cells n ≡ Some row
     → slice_get (flat_of design).cells n ≡ Some cell
     → (slice_get (cells_in design) n ≡ Some cell.is) × (cell.first ≡ length (port_pins design.top.now) + pins_in (take n (cells_in design))) × (row.first_pin ≡ cell.first)
 row_says design n row cell is row_at at =
-    let known = is.layout.cells n row row_at in
+    let known = is.elaboration.cells n row row_at in
     let own = cell_back (length (port_pins design.top.now)) (cells_in design) n cell at in
     (own.0, own.1, known.first ∙ sym own.1)

@@ -4,8 +4,8 @@ use Rattle.std.proofs.lemmas.List.{append_assoc, append-nil}
 use Rattle.std.specs.List.{find, list_any}
 use Rattle.source_types.specs.declared.netlists.Bit.{Bit}
 use Rattle.source_types.specs.declared.netlists.Link.{Link}
-use Rattle.sdc_model.specs.Connections.{bits_named, named_bits, ordered_bits}
-use Rattle.sdc_model.specs.Words.{same_text}
+use Rattle.flat_model.specs.Connections.{bits_named, named_bits, ordered_bits}
+use Rattle.text_model.specs.Words.{same_text}
 use Rattle.flat_design.specs.Connected.{bits_found, link_bits, link_names, named_at, ordered_at}
 use Rattle.flat_design.specs.Fitting.{stands_first}
 use Rattle.flat_design.specs.Names.{place_of}
@@ -43,18 +43,18 @@ bits_of_name all name =
     ∙ (ap link_bits (first_found (λ (link : Link). link.port) all name)
     ∙ found_bits all name (find (λ (link : Link). same_text link.port name) all) refl)
 
--- the bits at a terminal, behind others
-named_behind : (front before names : List (List ℕ)) (all : List Link) (at : ℕ) (name : List ℕ) → slice_get names at ≡ Some name
+-- the bits at a terminal, after others
+named_after : (front before names : List (List ℕ)) (all : List Link) (at : ℕ) (name : List ℕ) → slice_get names at ≡ Some name
     → ((q : List ℕ) → list_any (same_text q) before ≡ list_any (λ (f : List ℕ). same_text f q) front)
     → slice_get (named_bits before names all) at ≡ Some (cond (list_any (λ (f : List ℕ). same_text f name) (front ++ take at names)) [] (bits_named all name))
-named_behind front before [] all at name is seen = let bad : None ≡ Some name = is in cc
-named_behind front before (n ∷ names) all zero name is seen =
+named_after front before [] all at name is seen = let bad : None ≡ Some name = is in cc
+named_after front before (n ∷ names) all zero name is seen =
     let e : Some n ≡ Some name = is in
     let same : n ≡ name = cc in
     ap (λ (q : List ℕ). Some (cond (list_any (same_text q) before) [] (bits_named all q))) same
     ∙ ap (λ (b : Bool). Some (cond b [] (bits_named all name))) (seen name ∙ ap (list_any (λ (f : List ℕ). same_text f name)) (sym (append-nil front)))
-named_behind front before (n ∷ names) all (suc at) name is seen =
-    named_behind (front ++ n ∷ []) (n ∷ before) names all at name is
+named_after front before (n ∷ names) all (suc at) name is seen =
+    named_after (front ++ n ∷ []) (n ∷ before) names all at name is
     (λ q. ap (λ (b : Bool). same_text q n || b) (seen q) ∙ sym (any_push front n q))
     ∙ ap (λ (fs : List (List ℕ)). Some (cond (list_any (λ (f : List ℕ). same_text f name) fs) [] (bits_named all name))) (append_assoc front (n ∷ []) (take at names))
 
@@ -65,7 +65,7 @@ cond_not false c x y z is same = ap (λ (t : Bool). cond t x y) (sym is)
 pub named_is : (names : List (List ℕ)) (all : List Link) (at : ℕ) (name : List ℕ) → slice_get names at ≡ Some name
     → slice_get (named_bits [] names all) at ≡ Some (named_at names all at name)
 named_is names all at name is =
-    named_behind [] [] names all at name is (λ q. refl)
+    named_after [] [] names all at name is (λ q. refl)
     ∙ ap (λ (bits : List Bit). Some bits) (cond_not (stands_first (place_of names name) at) (list_any (λ (f : List ℕ). same_text f name) (take at names)) []
     (bits_named all name) (bits_found all (place_of (link_names all) name))
     (repeated_at names at name is ∙ sym (any_swap (take at names) name)) (sym (bits_of_name all name)))

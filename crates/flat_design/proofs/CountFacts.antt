@@ -7,12 +7,12 @@ use Rattle.std.specs.List.{sum_by}
 use Rattle.source_types.specs.declared.netlists.Module.{Module}
 use Rattle.source_types.specs.declared.netlists.Port.{Port}
 use Rattle.source_types.specs.declared.netlists.Wire.{Wire}
-use Rattle.sdc_model.specs.FlatDesign.{port_pin, port_pins}
-use Rattle.sdc_model.specs.FlatNets.{nets_in, wire_nets}
-use Rattle.sdc_model.specs.Instances.{Spot}
-use Rattle.sdc_model.specs.Ranges.{indices, width}
-use Rattle.sdc_model.proofs.RangeFacts.{indices_length}
-use Rattle.flat_design.specs.Layout.{capped}
+use Rattle.flat_model.specs.FlatDesign.{port_pin, port_pins}
+use Rattle.flat_model.specs.FlatNets.{nets_in, wire_nets}
+use Rattle.flat_model.specs.Instances.{ModuleInstance}
+use Rattle.netlist_model.specs.Ranges.{indices, width}
+use Rattle.netlist_model.proofs.RangeFacts.{indices_length}
+use Rattle.flat_design.specs.Elaboration.{capped}
 
 -- one more term of a sum
 pub count_more : {X : Type 0} (f : X → ℕ) (xs : List X) (i : ℕ) (x : X) (count w : ℕ) → i < length xs → x ≡ get_or xs i x → w ≡ f x
@@ -31,11 +31,11 @@ same_sum f g same (x ∷ xs) =
     let b = sum_by-cons g x xs in
     omega (arith, one, rest, a, b)
 
-pub nets_length : (spot : Spot) → length (nets_in spot) ≡ sum_by (λ (net : Wire). width net.range) spot.body.nets
-nets_length spot =
-    length-flat_map (wire_nets spot) spot.body.nets
-    ∙ same_sum (λ (net : Wire). length (wire_nets spot net)) (λ (net : Wire). width net.range)
-    (λ net. length-map (indices net.range) _ ∙ indices_length net.range) spot.body.nets
+pub nets_length : (scope : ModuleInstance) → length (nets_in scope) ≡ sum_by (λ (net : Wire). width net.range) scope.body.nets
+nets_length scope =
+    length-flat_map (wire_nets scope) scope.body.nets
+    ∙ same_sum (λ (net : Wire). length (wire_nets scope net)) (λ (net : Wire). width net.range)
+    (λ net. length-map (indices net.range) _ ∙ indices_length net.range) scope.body.nets
 
 pub ports_length : (top : Module) → length (port_pins top) ≡ sum_by (λ (port : Port). width port.range) top.ports
 ports_length top =

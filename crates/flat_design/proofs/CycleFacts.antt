@@ -7,27 +7,27 @@ use Rattle.std.proofs.lemmas.List.Folds.{list_any_at}
 use Rattle.std.proofs.lemmas.List.Sums.{sum_by-set}
 use Rattle.std.proofs.lemmas.Option.{slice_get-get_or}
 use Rattle.std.specs.List.{All, Contains, list_any, sum}
-use Rattle.flat_design.specs.declared.cycles.Groups.{Groups}
-use Rattle.flat_design.specs.declared.feeds.FeedRow.{FeedRow}
-use Rattle.flat_design.specs.declared.feeds.Feeder.{Feeder}
-use Rattle.flat_design.specs.declared.feeds.Feeder.TheVariants as feeder
-use Rattle.flat_design.specs.declared.source_table.SourceTable.{SourceTable}
-use Rattle.flat_design.specs.Cycles.{AreGroups, falls, is_level_at}
-use Rattle.flat_design.specs.Sources.{LeadsTo, Returns, fed}
+use Rattle.flat_design.specs.declared.drivers.cycles.Components.{Components}
+use Rattle.flat_design.specs.declared.drivers.driver_edges.DriverEdge.{DriverEdge}
+use Rattle.flat_design.specs.declared.drivers.driver_edges.Driver.{Driver}
+use Rattle.flat_design.specs.declared.drivers.driver_edges.Driver.TheVariants as driver
+use Rattle.flat_design.specs.declared.drivers.source_table.SourceTable.{SourceTable}
+use Rattle.flat_design.specs.Cycles.{AreComponents, falls, is_level_at}
+use Rattle.flat_design.specs.Sources.{LeadsTo, Returns, driven_by}
 use Rattle.flat_design.specs.SourceTable.{IsLinked}
 
--- ---- groups
+-- ---- components
 
 pub lasts_within : (table : SourceTable) → IsLinked table → All (λ (at : ℕ). at ≤ length table.rows.now) table.last
 lasts_within table linked = λ net d inside. (linked.lasts net (get_or table.last net d) (slice_get-get_or table.last net d inside)).within
 
-pub path_within : (nets rows : ℕ) (groups : Groups) → AreGroups nets rows groups → All (λ (net : ℕ). net < length groups.numbers.items) groups.path.items
-path_within nets rows groups is = subst (λ (n : ℕ). All (λ (net : ℕ). net < n) groups.path.items) (sym is.numbers) is.path
+pub path_within : (nets rows : ℕ) (components : Components) → AreComponents nets rows components → All (λ (net : ℕ). net < length components.numbers.items) components.path.items
+path_within nets rows components is = subst (λ (n : ℕ). All (λ (net : ℕ). net < n) components.path.items) (sym is.numbers) is.path
 
 -- fewer rows are left of a net
-pub row_followed : (nets rows net at : ℕ) (old new : Groups) → AreGroups nets rows old → at ≤ rows
+pub row_followed : (nets rows net at : ℕ) (old new : Components) → AreComponents nets rows old → at ≤ rows
     → new.numbers.items ≡ old.numbers.items → new.last.items ≡ set old.last.items net at → new.path.items ≡ old.path.items
-    → new.waiting.items ≡ old.waiting.items → AreGroups nets rows new
+    → new.waiting.items ≡ old.waiting.items → AreComponents nets rows new
 row_followed nets rows net at old new is low numbers last path waiting = record {
   numbers = ap length numbers ∙ is.numbers;
   count = ap length last ∙ (length-set old.last.items net at ∙ is.count);
@@ -43,9 +43,9 @@ row_falls net place at last inside here low =
     omega (arith, e, here, low)
 
 -- one of those that wait is taken, and has a number
-pub taken : (nets rows net number : ℕ) (old new : Groups) → AreGroups nets rows old → new.numbers.items ≡ set old.numbers.items net number
+pub taken : (nets rows net number : ℕ) (old new : Components) → AreComponents nets rows old → new.numbers.items ≡ set old.numbers.items net number
     → new.last.items ≡ old.last.items → new.path.items ≡ old.path.items → old.waiting.items ≡ new.waiting.items ++ net ∷ []
-    → AreGroups nets rows new
+    → AreComponents nets rows new
 taken nets rows net number old new is numbers last path waiting = record {
   numbers = ap length numbers ∙ (length-set old.numbers.items net number ∙ is.numbers);
   count = ap length last ∙ is.count;
@@ -57,33 +57,33 @@ taken nets rows net number old new is numbers last path waiting = record {
 -- ---- numbers
 
 -- a test that no row passes, none passes that has a source of a net
-none_fed : (test : FeedRow → Bool) (rows : List FeedRow) (net : ℕ) (source : Feeder) → list_any test rows ≡ false
-    → Contains (fed rows net) source → test (record { to = net; from = source }) ≡ false
-none_fed test rows net source none there =
-    let fails : All (λ (row : FeedRow). test row ≡ false) rows = λ k d inside.
+none_driven : (test : DriverEdge → Bool) (rows : List DriverEdge) (net : ℕ) (source : Driver) → list_any test rows ≡ false
+    → Contains (driven_by rows net) source → test (record { to = net; from = source }) ≡ false
+none_driven test rows net source none there =
+    let fails : All (λ (row : DriverEdge). test row ≡ false) rows = λ k d inside.
     elim (cases_Bool (test (get_or rows k d))) [
       | inl passes ↦ absurd (true≢false (sym (list_any_at test rows k d inside passes) ∙ none))
       | inr fails ↦ fails
     ] in
-    let feeds = λ (row : FeedRow). nat_eq row.to net in
-    let says = λ (one : Feeder). test (record { to = net; from = one }) ≡ false in
-    All-contains says (fed rows net) source
-    (All-map says (λ (row : FeedRow). row.from) (filter feeds rows)
+    let drivers = λ (row : DriverEdge). nat_eq row.to net in
+    let says = λ (one : Driver). test (record { to = net; from = one }) ≡ false in
+    All-contains says (driven_by rows net) source
+    (All-map says (λ (row : DriverEdge). row.from) (filter drivers rows)
     (λ k d inside.
-    let row = get_or (filter feeds rows) k d in
-    subst (λ (n : ℕ). test (record { to = n; from = row.from }) ≡ false) (eqb-true row.to net (filter_passes feeds rows k d inside))
-    (All-filter feeds (λ (one : FeedRow). test one ≡ false) rows fails k d inside))) there
+    let row = get_or (filter drivers rows) k d in
+    subst (λ (n : ℕ). test (record { to = n; from = row.from }) ≡ false) (eqb-true row.to net (filter_passes drivers rows k d inside))
+    (All-filter drivers (λ (one : DriverEdge). test one ≡ false) rows fails k d inside))) there
 
-rises : (numbers : List ℕ) (rows : List FeedRow) (net source : ℕ) → list_any (falls numbers) rows ≡ false
-    → Contains (fed rows net) (feeder.Net source) → get_or numbers net 0 ≤ get_or numbers source 0
+rises : (numbers : List ℕ) (rows : List DriverEdge) (net source : ℕ) → list_any (falls numbers) rows ≡ false
+    → Contains (driven_by rows net) (driver.Net source) → get_or numbers net 0 ≤ get_or numbers source 0
 rises numbers rows net source none there =
-    let not_below = none_fed (falls numbers) rows net (feeder.Net source) none there in
+    let not_below = none_driven (falls numbers) rows net (driver.Net source) none there in
     elim (cases_lt (get_or numbers source 0) (get_or numbers net 0)) [
       | inl below ↦ absurd (true≢false (sym (lt-ltb (get_or numbers source 0) (get_or numbers net 0) below) ∙ not_below))
       | inr not ↦ not
     ]
 
-led_up : (numbers : List ℕ) (rows : List FeedRow) (net : ℕ) (nets : List ℕ) (end : ℕ) → list_any (falls numbers) rows ≡ false
+led_up : (numbers : List ℕ) (rows : List DriverEdge) (net : ℕ) (nets : List ℕ) (end : ℕ) → list_any (falls numbers) rows ≡ false
     → LeadsTo rows net nets end → get_or numbers net 0 ≤ get_or numbers end 0
 led_up numbers rows net [] end none leads = rises numbers rows net end none leads
 led_up numbers rows net (next ∷ nets) end none leads =
@@ -91,24 +91,24 @@ led_up numbers rows net (next ∷ nets) end none leads =
     let rest = led_up numbers rows next nets end none leads.1 in
     omega (arith, first, rest)
 
-differs : (numbers : List ℕ) (rows : List FeedRow) (net source : ℕ) → list_any (is_level_at numbers net) rows ≡ false
-    → Contains (fed rows net) (feeder.Net source) → get_or numbers source 0 ≡ get_or numbers net 0 → ⊥
+differs : (numbers : List ℕ) (rows : List DriverEdge) (net source : ℕ) → list_any (is_level_at numbers net) rows ≡ false
+    → Contains (driven_by rows net) (driver.Net source) → get_or numbers source 0 ≡ get_or numbers net 0 → ⊥
 differs numbers rows net source none there same =
-    let level : is_level_at numbers net (record { to = net; from = feeder.Net source }) ≡ true =
+    let level : is_level_at numbers net (record { to = net; from = driver.Net source }) ≡ true =
     ap (λ (b : Bool). b && (get_or numbers source 0 == get_or numbers net 0)) (eq-eqb net net refl)
     ∙ eq-eqb (get_or numbers source 0) (get_or numbers net 0) same in
-    true≢false (sym level ∙ none_fed (is_level_at numbers net) rows net (feeder.Net source) none there)
+    true≢false (sym level ∙ none_driven (is_level_at numbers net) rows net (driver.Net source) none there)
 
-no_way_back : (numbers : List ℕ) (rows : List FeedRow) (net : ℕ) (nets : List ℕ) → list_any (falls numbers) rows ≡ false
+no_way_back : (numbers : List ℕ) (rows : List DriverEdge) (net : ℕ) (nets : List ℕ) → list_any (falls numbers) rows ≡ false
     → list_any (is_level_at numbers net) rows ≡ false → LeadsTo rows net nets net → ⊥
-no_way_back numbers rows net [] none apart leads = differs numbers rows net net apart leads refl
-no_way_back numbers rows net (next ∷ nets) none apart leads =
+no_way_back numbers rows net [] none distinct leads = differs numbers rows net net distinct leads refl
+no_way_back numbers rows net (next ∷ nets) none distinct leads =
     let first = rises numbers rows net next none leads.0 in
     let rest = led_up numbers rows next nets net none leads.1 in
-    differs numbers rows net next apart leads.0 (omega (arith, first, rest))
+    differs numbers rows net next distinct leads.0 (omega (arith, first, rest))
 
 -- sources do not come back to a net that has no number with one of its sources, where no number falls
-pub never_returns : (numbers : List ℕ) (rows : List FeedRow) (net : ℕ)
+pub never_returns : (numbers : List ℕ) (rows : List DriverEdge) (net : ℕ)
     → (list_any (falls numbers) rows || list_any (is_level_at numbers net) rows) ≡ false → Returns rows net → ⊥
 never_returns numbers rows net none returns =
     let both = or_parts (list_any (falls numbers) rows) (list_any (is_level_at numbers net) rows) none in

@@ -6,19 +6,19 @@ use Rattle.std.specs.List.{AllZip, flat_map}
 use Rattle.timing_types.specs.declared.designs.NetInfo.{NetInfo}
 use Rattle.timing_types.specs.declared.designs.PinInfo.{PinInfo}
 use Rattle.timing_types.specs.declared.designs.Source.{Source}
-use Rattle.sdc_model.specs.FlatDesign.{Flat, FlatPin, IsNet, IsPin, IsSourceOf, pin_places}
-use Rattle.sdc_model.specs.FlatFaults.{flat_pin_name}
-use Rattle.sdc_model.specs.FlatNets.{FlatNet, bit_of, net_name, nets_in}
-use Rattle.flat_design.specs.declared.hierarchy.Hierarchy.{Hierarchy}
-use Rattle.flat_design.specs.declared.pin_rows.PinRow.{PinRow}
+use Rattle.flat_model.specs.FlatDesign.{Flat, FlatPin, IsNet, IsPin, IsSourceOf, pin_places}
+use Rattle.flat_model.specs.FlatFaults.{flat_pin_name}
+use Rattle.flat_model.specs.FlatNets.{FlatNet, bit_of, net_name, nets_in}
+use Rattle.flat_design.specs.declared.elaborate.hierarchy.Hierarchy.{Hierarchy}
+use Rattle.flat_design.specs.declared.assemble.pin_rows.PinRow.{PinRow}
 use Rattle.flat_design.specs.DesignParts.{net_infos, pin_infos}
-use Rattle.flat_design.specs.Hierarchy.{IsHierarchy, pins_of_design, spots_in}
+use Rattle.flat_design.specs.Hierarchy.{IsHierarchy, pins_of_design, scopes_in}
 use Rattle.flat_design.specs.NamedFaults.{flat_of}
 use Rattle.flat_design.specs.PinRows.{AreEnds, IsPinRow}
 use Rattle.flat_design.proofs.RangeFacts.{map_at}
 
 pub nets_named : (f : Flat) (nets : List FlatNet) (ends : List Source) → length nets ≡ length ends
-    → ((n : ℕ) (net : FlatNet) (end : Source) → slice_get nets n ≡ Some net → slice_get ends n ≡ Some end → IsSourceOf (pin_places f) f.feeds (bit_of net) end)
+    → ((n : ℕ) (net : FlatNet) (end : Source) → slice_get nets n ≡ Some net → slice_get ends n ≡ Some end → IsSourceOf (pin_places f) f.drivers (bit_of net) end)
     → AllZip (IsNet f) nets (net_infos (map net_name nets) ends)
 nets_named f [] ends same each = tt
 nets_named f (net ∷ nets) [] same each = absurd (omega (arith, same))
@@ -41,19 +41,19 @@ pins_named design (pin ∷ pins) (row ∷ rows) all = (
 
 -- each net has its source
 pub nets_are : (design : Hierarchy) (names : List (List ℕ)) (ends : List Source) (nets : List NetInfo) → IsHierarchy design → AreEnds design ends
-    → names ≡ map net_name (flat_map nets_in (spots_in design)) → nets ≡ net_infos names ends → AllZip (IsNet (flat_of design)) (flat_of design).nets nets
+    → names ≡ map net_name (flat_map nets_in (scopes_in design)) → nets ≡ net_infos names ends → AllZip (IsNet (flat_of design)) (flat_of design).nets nets
 nets_are design names ends nets is own named made =
-    let all = flat_map nets_in (spots_in design) in
-    let count : length all ≡ length ends = sym is.layout.nets ∙ sym own.count in
+    let all = flat_map nets_in (scopes_in design) in
+    let count : length all ≡ length ends = sym is.elaboration.nets ∙ sym own.count in
     subst (AllZip (IsNet (flat_of design)) all) (sym (made ∙ ap (λ (ns : List (List ℕ)). net_infos ns ends) named))
     (nets_named (flat_of design) all ends count (λ n net end at found. own.each n (bit_of net) end (map_at bit_of all n net at) found))
 
 -- as many sources as names
 pub ends_named : (design : Hierarchy) (names : List (List ℕ)) (ends : List Source) → IsHierarchy design → AreEnds design ends
-    → names ≡ map net_name (flat_map nets_in (spots_in design)) → length names ≡ length ends
+    → names ≡ map net_name (flat_map nets_in (scopes_in design)) → length names ≡ length ends
 ends_named design names ends is own named =
-    let all = flat_map nets_in (spots_in design) in
-    let count : length all ≡ length ends = sym is.layout.nets ∙ sym own.count in
+    let all = flat_map nets_in (scopes_in design) in
+    let count : length all ≡ length ends = sym is.elaboration.nets ∙ sym own.count in
     let a : length names ≡ length (map net_name all) = ap length named in
     let b : length (map net_name all) ≡ length all = length-map all net_name in
     omega (arith, count, a, b)

@@ -4,7 +4,8 @@ use Rattle.std.proofs.lemmas.List.Elements.{All-nil}
 use Rattle.std.proofs.lemmas.Option.{none-some}
 use Rattle.timing_types.specs.declared.designs.NetInfo.{NetInfo}
 use Rattle.timing_types.specs.declared.designs.PinInfo.{PinInfo}
-use Rattle.sdc_model.specs.WellFormedDesign.{AreGoodNames, IsDriver, IsWellFormedDesign, is_good_name}
+use Rattle.text_model.specs.Names.{AreGoodNames, is_good_name}
+use Rattle.design_model.specs.WellFormedDesign.{IsDriver, IsWellFormedDesign}
 use Rattle.flat_design.specs.EmptyDesign.{empty_design}
 
 no_names : AreGoodNames []

@@ -6,12 +6,12 @@ use Rattle.std.proofs.lemmas.List.{get_or-set_same, get_or-set_other, length-set
 use Rattle.std.proofs.lemmas.List.Sums.{sum_by-set}
 use Rattle.std.specs.List.{Contains}
 use Rattle.timing_types.specs.declared.designs.Source.{Source}
-use Rattle.flat_design.specs.declared.ends.Mark.{Mark}
-use Rattle.flat_design.specs.declared.ends.Mark.TheVariants as mark
-use Rattle.flat_design.specs.declared.ends.Next.TheVariants as next
-use Rattle.flat_design.specs.declared.feeds.FeedRow.{FeedRow}
-use Rattle.flat_design.specs.declared.feeds.Feeder.TheVariants as feeder
-use Rattle.flat_design.specs.Sources.{LeadsTo, fed}
+use Rattle.flat_design.specs.declared.drivers.ends.Mark.{Mark}
+use Rattle.flat_design.specs.declared.drivers.ends.Mark.TheVariants as mark
+use Rattle.flat_design.specs.declared.drivers.ends.Next.TheVariants as next
+use Rattle.flat_design.specs.declared.drivers.driver_edges.DriverEdge.{DriverEdge}
+use Rattle.flat_design.specs.declared.drivers.driver_edges.Driver.TheVariants as driver
+use Rattle.flat_design.specs.Sources.{LeadsTo, driven_by}
 use Rattle.flat_design.specs.Ends.{AreKept, AreSettled, IsSettled, SomeReturns, WalksFrom, is_done, is_open, mark_of}
 use Rattle.flat_design.specs.Walk.{is_in}
 use Rattle.flat_design.proofs.EndFacts.{NextIs, contains_first}
@@ -22,40 +22,40 @@ use Rattle.flat_design.proofs.SourceFacts.{leads_more}
 -- ---- the path
 
 -- each net on a path, the last one first, is the one source of the next one, and stands there once
-abbrev pub IsPath : List FeedRow → List ℕ → Type 0
+abbrev pub IsPath : List DriverEdge → List ℕ → Type 0
 IsPath rows [] = ⊤
 IsPath rows (at ∷ []) = ⊤
-IsPath rows (at ∷ before ∷ outer) = (is_in (before ∷ outer) at ≡ false) × ((fed rows before ≡ feeder.Net at ∷ []) × IsPath rows (before ∷ outer))
+IsPath rows (at ∷ before ∷ outer) = (is_in (before ∷ outer) at ≡ false) × ((driven_by rows before ≡ driver.Net at ∷ []) × IsPath rows (before ∷ outer))
 
-path_apart : (rows : List FeedRow) (at : ℕ) (outer : List ℕ) → IsPath rows (at ∷ outer) → is_in outer at ≡ false
-path_apart rows at [] path = refl
-path_apart rows at (before ∷ outer) path = path.0
+path_distinct : (rows : List DriverEdge) (at : ℕ) (outer : List ℕ) → IsPath rows (at ∷ outer) → is_in outer at ≡ false
+path_distinct rows at [] path = refl
+path_distinct rows at (before ∷ outer) path = path.0
 
-path_outer : (rows : List FeedRow) (at : ℕ) (outer : List ℕ) → IsPath rows (at ∷ outer) → IsPath rows outer
+path_outer : (rows : List DriverEdge) (at : ℕ) (outer : List ℕ) → IsPath rows (at ∷ outer) → IsPath rows outer
 path_outer rows at [] path = tt
 path_outer rows at (before ∷ outer) path = path.1.1
 
-abbrev Leads : List FeedRow → ℕ → ℕ → Type 0
+abbrev Leads : List DriverEdge → ℕ → ℕ → Type 0
 Leads rows net end = (ways : List ℕ) × LeadsTo rows net ways end
 
-path_leads : (rows : List FeedRow) (at : ℕ) (outer : List ℕ) (e : ℕ) → IsPath rows (at ∷ outer) → is_in (at ∷ outer) e ≡ true
+path_leads : (rows : List DriverEdge) (at : ℕ) (outer : List ℕ) (e : ℕ) → IsPath rows (at ∷ outer) → is_in (at ∷ outer) e ≡ true
     → (e ≡ at) ⊎ Leads rows e at
 path_leads rows at [] e path h =
     elim (or_cases (at == e) false h) [ inl same ↦ inl (sym (eqb-true at e same)) | inr bad ↦ absurd (false≢true bad) ]
 path_leads rows at (before ∷ outer) e path h =
     elim (or_cases (at == e) (is_in (before ∷ outer) e) h) [
       | inl same ↦ inl (sym (eqb-true at e same))
-      | inr behind ↦
-          let there : Contains (fed rows before) (feeder.Net at) = contains_first (fed rows before) (feeder.Net at) [] path.1.0 in
-          elim (path_leads rows before outer e path.1.1 behind) [
-            | inl same ↦ inr ([], subst (λ (n : ℕ). Contains (fed rows n) (feeder.Net at)) (sym same) there)
+      | inr after ↦
+          let there : Contains (driven_by rows before) (driver.Net at) = contains_first (driven_by rows before) (driver.Net at) [] path.1.0 in
+          elim (path_leads rows before outer e path.1.1 after) [
+            | inl same ↦ inr ([], subst (λ (n : ℕ). Contains (driven_by rows n) (driver.Net at)) (sym same) there)
             | inr way ↦ inr (way.0 ++ before ∷ [], leads_more rows e way.0 before at way.1 there)
           ]
     ]
 
 -- ---- following
 
-pub record Following (rows : List FeedRow) (nets start : ℕ) (old marks : List Mark) (path : List ℕ) : Type 0 where
+pub record Following (rows : List DriverEdge) (nets start : ℕ) (old marks : List Mark) (path : List ℕ) : Type 0 where
   pub count : length marks ≡ nets
   pub opened : (m : ℕ) → is_open (mark_of marks m) ≡ is_in path m
   pub settled : (m : ℕ) (end : Source) → mark_of marks m ≡ mark.Done end → IsSettled rows m end
@@ -66,7 +66,7 @@ pub record Following (rows : List FeedRow) (nets start : ℕ) (old marks : List 
 not_done : (end : Source) → mark.Open ≡ mark.Done end → ⊥
 not_done end is = cc
 
-settled_more : (rows : List FeedRow) (marks : List Mark) (from : ℕ) → from < length marks
+settled_more : (rows : List DriverEdge) (marks : List Mark) (from : ℕ) → from < length marks
     → ((m : ℕ) (end : Source) → mark_of marks m ≡ mark.Done end → IsSettled rows m end)
     → (m : ℕ) (end : Source) → mark_of (set marks from mark.Open) m ≡ mark.Done end → IsSettled rows m end
 settled_more rows marks from inside settled m end is =
@@ -80,10 +80,10 @@ kept_more : (old marks : List Mark) (from : ℕ) → from < length marks → mar
 kept_more old marks from inside new kept m h =
     elim (cases_eq from m) [
       | inl same ↦ absurd (false≢true (sym (ap is_done new) ∙ (ap (λ (n : ℕ). is_done (mark_of marks n)) same ∙ kept m h)))
-      | inr apart ↦ ap is_done (get_or-set_other marks from m mark.Open mark.New (λ e. apart (sym e))) ∙ kept m h
+      | inr distinct ↦ ap is_done (get_or-set_other marks from m mark.Open mark.New (λ e. distinct (sym e))) ∙ kept m h
     ]
 
-pub following_start : (rows : List FeedRow) (nets start : ℕ) (old : List Mark) → AreSettled rows nets old → start < nets → mark_of old start ≡ mark.New
+pub following_start : (rows : List DriverEdge) (nets start : ℕ) (old : List Mark) → AreSettled rows nets old → start < nets → mark_of old start ≡ mark.New
     → Following rows nets start (set old start mark.Open) (set old start mark.Open) (start ∷ [])
 following_start rows nets start old settled within new =
     let inside : start < length old = omega (arith, settled.count) in
@@ -96,12 +96,12 @@ following_start rows nets start old settled within new =
       started = ap (λ (mk : Mark). is_done mk || is_open mk) (get_or-set_same old start mark.Open mark.New inside);
     }
 
-pub at_within : (rows : List FeedRow) (nets start : ℕ) (old marks : List Mark) (at : ℕ) (outer : List ℕ) → Following rows nets start old marks (at ∷ outer)
+pub at_within : (rows : List DriverEdge) (nets start : ℕ) (old marks : List Mark) (at : ℕ) (outer : List ℕ) → Following rows nets start old marks (at ∷ outer)
     → at < length marks
 at_within rows nets start old marks at outer so =
     open_within marks at (so.opened at ∙ or_left (at == at) (is_in outer at) (eq-eqb at at refl))
 
-pub follow_on : (rows : List FeedRow) (nets start : ℕ) (old marks : List Mark) (at from : ℕ) (outer : List ℕ)
+pub follow_on : (rows : List DriverEdge) (nets start : ℕ) (old marks : List Mark) (at from : ℕ) (outer : List ℕ)
     → Following rows nets start old marks (at ∷ outer) → NextIs rows marks at (next.Follow from) → from < length marks
     → Following rows nets start old (set marks from mark.Open) (from ∷ at ∷ outer)
 follow_on rows nets start old marks at from outer so is inside = record {
@@ -112,7 +112,7 @@ follow_on rows nets start old marks at from outer so is inside = record {
   kept = kept_more old marks from inside is.1 so.kept;
   started = marks_as marks from mark.Open mark.New inside
       (λ (n : ℕ) (mk : Mark). n ≡ start → (is_done mk || is_open mk) ≡ true) (λ e. refl) start
-      (λ apart e. so.started) refl;
+      (λ distinct e. so.started) refl;
 }
 
 pub follow_falls : (marks : List Mark) (from : ℕ) → from < length marks → mark_of marks from ≡ mark.New
@@ -122,7 +122,7 @@ follow_falls marks from inside new = omega (arith, sum_by-set weight marks from 
 same_end : (end last : Source) → mark.Done end ≡ mark.Done last → end ≡ last
 same_end end last is = cc
 
-pub end_on : (rows : List FeedRow) (nets start : ℕ) (old marks : List Mark) (at : ℕ) (outer : List ℕ) (end : Source)
+pub end_on : (rows : List DriverEdge) (nets start : ℕ) (old marks : List Mark) (at : ℕ) (outer : List ℕ) (end : Source)
     → Following rows nets start old marks (at ∷ outer) → IsSettled rows at end
     → Following rows nets start old (set marks at (mark.Done end)) outer
 end_on rows nets start old marks at outer end so is =
@@ -131,7 +131,7 @@ end_on rows nets start old marks at outer end so is =
       count = length-set marks at (mark.Done end) ∙ so.count;
       opened = λ m.
           marks_as marks at (mark.Done end) mark.New inside (λ (n : ℕ) (mk : Mark). is_open mk ≡ is_in outer n)
-          (sym (path_apart rows at outer so.linked)) m (λ apart. so.opened m ∙ in_other at m outer apart);
+          (sym (path_distinct rows at outer so.linked)) m (λ distinct. so.opened m ∙ in_other at m outer distinct);
       settled = λ m last there.
           elim (marked_as marks at (mark.Done end) inside (λ (mk : Mark). mk ≡ mark.Done last) m there) [
             | inl h ↦ subst (λ (n : ℕ). IsSettled rows n last) h.0 (subst (IsSettled rows at) (same_end end last h.1) is)
@@ -139,12 +139,12 @@ end_on rows nets start old marks at outer end so is =
           ];
       linked = path_outer rows at outer so.linked;
       kept = λ m h.
-          marks_as marks at (mark.Done end) mark.New inside (λ (n : ℕ) (mk : Mark). is_done mk ≡ true) refl m (λ apart. so.kept m h);
+          marks_as marks at (mark.Done end) mark.New inside (λ (n : ℕ) (mk : Mark). is_done mk ≡ true) refl m (λ distinct. so.kept m h);
       started = marks_as marks at (mark.Done end) mark.New inside (λ (n : ℕ) (mk : Mark). n ≡ start → (is_done mk || is_open mk) ≡ true) (λ e. refl) start
-          (λ apart e. so.started) refl;
+          (λ distinct e. so.started) refl;
     }
 
-pub end_falls : (rows : List FeedRow) (nets start : ℕ) (old marks : List Mark) (at : ℕ) (outer : List ℕ) (end : Source)
+pub end_falls : (rows : List DriverEdge) (nets start : ℕ) (old marks : List Mark) (at : ℕ) (outer : List ℕ) (end : Source)
     → Following rows nets start old marks (at ∷ outer) → to_follow (set marks at (mark.Done end)) < to_follow marks
 end_falls rows nets start old marks at outer end so =
     let inside = at_within rows nets start old marks at outer so in
@@ -152,17 +152,17 @@ end_falls rows nets start old marks at outer end so =
     omega (arith, sum_by-set weight marks at (mark.Done end) mark.New inside, one)
 
 -- sources come back
-pub back_returns : (rows : List FeedRow) (nets start : ℕ) (old marks : List Mark) (at : ℕ) (outer : List ℕ)
+pub back_returns : (rows : List DriverEdge) (nets start : ℕ) (old marks : List Mark) (at : ℕ) (outer : List ℕ)
     → Following rows nets start old marks (at ∷ outer) → NextIs rows marks at next.Back → SomeReturns rows nets
 back_returns rows nets start old marks at outer so is =
     let from = is.0 in
     let opened : is_open (mark_of marks from) ≡ true = ap is_open is.2 in
-    let there : Contains (fed rows at) (feeder.Net from) = contains_first (fed rows at) (feeder.Net from) [] is.1 in
+    let there : Contains (driven_by rows at) (driver.Net from) = contains_first (driven_by rows at) (driver.Net from) [] is.1 in
     let inside : from < nets = omega (arith, open_within marks from opened, so.count) in (
       from,
       inside,
       elim (path_leads rows at outer from so.linked (sym (so.opened from) ∙ opened)) [
-        | inl same ↦ ([], subst (λ (n : ℕ). Contains (fed rows n) (feeder.Net from)) (sym same) there)
+        | inl same ↦ ([], subst (λ (n : ℕ). Contains (driven_by rows n) (driver.Net from)) (sym same) there)
         | inr way ↦ (way.0 ++ at ∷ [], leads_more rows from way.0 at from way.1 there)
       ],
     )
@@ -171,7 +171,7 @@ only_done : (a b : Bool) → b ≡ false → (a || b) ≡ true → a ≡ true
 only_done true b none h = refl
 only_done false b none h = absurd (false≢true (sym none ∙ h))
 
-pub followed : (rows : List FeedRow) (nets start : ℕ) (old marks : List Mark) → start < length old → mark_of old start ≡ mark.New
+pub followed : (rows : List DriverEdge) (nets start : ℕ) (old marks : List Mark) → start < length old → mark_of old start ≡ mark.New
     → Following rows nets start (set old start mark.Open) marks [] → WalksFrom rows nets start old marks true
 followed rows nets start old marks inside new so = (
   record { count = so.count; quiet = so.opened; settled = so.settled },

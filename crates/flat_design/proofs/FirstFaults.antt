@@ -4,7 +4,7 @@ use Rattle.std.proofs.lemmas.Bool.{cases_lt}
 use Rattle.std.proofs.lemmas.Option.{slice_get_within}
 use Rattle.sdc_base.specs.declared.memory.At.{At}
 use Rattle.source_types.specs.declared.fault_kinds.DesignKind.{DesignKind}
-use Rattle.sdc_model.specs.FlatFaults.{HasNoFault, IsFirstFault, IsNoLater}
+use Rattle.flat_model.specs.FlatFaults.{HasNoFault, IsFirstFault, IsNoLater}
 use Rattle.flat_design.specs.NamedFaults.{HaveNoneBefore, IsFirstKind}
 use Rattle.flat_design.proofs.HierarchyFacts.{one_at}
 
@@ -33,10 +33,10 @@ earliest : (Thing : Type 0) (Has : ℕ → Thing → DesignKind → Type 0) (thi
 earliest Thing Has things n thing first at is before other other_thing kind there has =
     elim (cases_lt other n) [
       | inl earlier ↦ absurd (before other other_thing kind earlier there has)
-      | inr behind ↦ elim (cases_lt n other) [
+      | inr after ↦ elim (cases_lt n other) [
         | inl later ↦ inl later
         | inr last ↦
-            let here : other ≡ n = omega (arith, behind, last) in
+            let here : other ≡ n = omega (arith, after, last) in
             let same : other_thing ≡ thing = one_at things n other_thing thing (ap (slice_get things) (sym here) ∙ there) at in
             inr (sym here, is.1 kind (subst (λ (k : ℕ). Has k thing kind) here (subst (λ (one : Thing). Has other one kind) same has)))
       ]

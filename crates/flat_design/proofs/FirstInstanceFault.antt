@@ -6,19 +6,19 @@ use Rattle.sdc_base.specs.declared.memory.At.{At}
 use Rattle.source_types.specs.declared.fault_kinds.DesignKind.{DesignKind}
 use Rattle.source_types.specs.declared.libraries.Library.{Library}
 use Rattle.source_types.specs.declared.netlists.Module.{Module}
-use Rattle.sdc_model.specs.Connections.{instance_fault}
-use Rattle.sdc_model.specs.FlatDesign.{flat}
-use Rattle.sdc_model.specs.FlatFaults.{HasNoFault, InstanceHas, IsFirstFault, IsNoLater, instance_line, rank}
-use Rattle.sdc_model.specs.Flattening.{FirstOfInstances, NoneOfInstances, fault_of}
-use Rattle.sdc_model.specs.Instances.{Placed, instances_of, top_spot}
-use Rattle.sdc_model.specs.WellFormedDesign.{AreDistinct}
-use Rattle.flat_design.specs.declared.walk.FaultAt.{FaultAt}
-use Rattle.flat_design.specs.LayingOut.{denoted}
+use Rattle.flat_model.specs.Connections.{instance_fault}
+use Rattle.flat_model.specs.FlatDesign.{flat}
+use Rattle.flat_model.specs.FlatFaults.{HasNoFault, InstanceHas, IsFirstFault, IsNoLater, instance_line, rank}
+use Rattle.flat_model.specs.Flattening.{FirstOfInstances, NoneOfInstances, fault_of}
+use Rattle.flat_model.specs.Instances.{Placed, instances_of, top_scope}
+use Rattle.text_model.specs.Names.{AreDistinct}
+use Rattle.flat_design.specs.declared.elaborate.walk.FaultAt.{FaultAt}
+use Rattle.flat_design.specs.Elaborating.{denoted}
 use Rattle.flat_design.specs.Steps.{all_steps, module_names, steps_in}
 use Rattle.flat_design.specs.Walk.{faults_below, faults_from}
 use Rattle.flat_design.proofs.InstanceFaults.{fault_if, placed_faults, same_faults}
 
--- an instance behind another one
+-- an instance after another one
 later : (place other : ℕ) (kind other_kind : DesignKind) → IsNoLater place kind other other_kind → IsNoLater (suc place) kind (suc other) other_kind
 later place other kind other_kind (inl less) = inl (omega arith)
 later place other kind other_kind (inr same) = inr (ap suc same.0, same.1)
@@ -53,28 +53,28 @@ fault_here modules library x xs kind first rest has all =
       earliest = λ other thing k at its. earliest_here modules library x xs kind first has kinds other thing k at its;
     }
 
-earliest_behind : (modules : List Module) (library : Library) (x : Placed) (xs : List Placed) (first : At DesignKind)
+earliest_after : (modules : List Module) (library : Library) (x : Placed) (xs : List Placed) (first : At DesignKind)
     → instance_fault modules library x ≡ None → (found : IsFirstFault Placed (InstanceHas modules library) instance_line xs first)
     → (other : ℕ) (thing : Placed) (k : DesignKind) → slice_get (x ∷ xs) other ≡ Some thing → instance_fault modules library thing ≡ Some k
     → IsNoLater (suc found.place) first.kind other k
-earliest_behind modules library x xs first none found zero thing k at its =
+earliest_after modules library x xs first none found zero thing k at its =
     let e : Some x ≡ Some thing = at in
     let one : x ≡ thing = cc in
     let bad : None ≡ Some k = sym none ∙ (ap (λ (y : Placed). instance_fault modules library y) one ∙ its) in
     cc
-earliest_behind modules library x xs first none found (suc other) thing k at its = later found.place other first.kind k (found.earliest other thing k at its)
+earliest_after modules library x xs first none found (suc other) thing k at its = later found.place other first.kind k (found.earliest other thing k at its)
 
 -- the first instance has none
-fault_behind : (modules : List Module) (library : Library) (x : Placed) (xs : List Placed) (first : At DesignKind)
+fault_after : (modules : List Module) (library : Library) (x : Placed) (xs : List Placed) (first : At DesignKind)
     → instance_fault modules library x ≡ None → IsFirstFault Placed (InstanceHas modules library) instance_line xs first
     → IsFirstFault Placed (InstanceHas modules library) instance_line (x ∷ xs) first
-fault_behind modules library x xs first none found = record {
+fault_after modules library x xs first none found = record {
   place = suc found.place;
   thing = found.thing;
   is = found.is;
   has = found.has;
   line_is = found.line_is;
-  earliest = λ other thing k at its. earliest_behind modules library x xs first none found other thing k at its;
+  earliest = λ other thing k at its. earliest_after modules library x xs first none found other thing k at its;
 }
 
 first_step : (modules : List Module) (library : Library) (x : Placed) (xs : List Placed) (first : At DesignKind) (rest : List (At DesignKind))
@@ -82,8 +82,8 @@ first_step : (modules : List Module) (library : Library) (x : Placed) (xs : List
     → (o : Option DesignKind) → instance_fault modules library x ≡ o
     → cons_option (fault_if x.instance.line o) (placed_faults modules library xs) ≡ first ∷ rest
     → IsFirstFault Placed (InstanceHas modules library) instance_line (x ∷ xs) first
-first_step modules library x xs first rest behind None is all = fault_behind modules library x xs first is (behind rest all)
-first_step modules library x xs first rest behind (Some kind) is all = fault_here modules library x xs kind first rest is all
+first_step modules library x xs first rest after None is all = fault_after modules library x xs first is (after rest all)
+first_step modules library x xs first rest after (Some kind) is all = fault_here modules library x xs kind first rest is all
 
 first_fault : (modules : List Module) (library : Library) (things : List Placed) (first : At DesignKind) (rest : List (At DesignKind))
     → placed_faults modules library things ≡ first ∷ rest → IsFirstFault Placed (InstanceHas modules library) instance_line things first
@@ -93,11 +93,11 @@ first_fault modules library (x ∷ xs) first rest all =
 
 none_step : (modules : List Module) (library : Library) (x : Placed) (xs : List Placed) → ((k : DesignKind) → instance_fault modules library x ≡ Some k → ⊥)
     → HasNoFault Placed (InstanceHas modules library) xs → HasNoFault Placed (InstanceHas modules library) (x ∷ xs)
-none_step modules library x xs here behind zero thing k at its =
+none_step modules library x xs here after zero thing k at its =
     let e : Some x ≡ Some thing = at in
     let one : x ≡ thing = cc in
     here k (ap (λ (y : Placed). instance_fault modules library y) one ∙ its)
-none_step modules library x xs here behind (suc place) thing k at its = behind place thing k at its
+none_step modules library x xs here after (suc place) thing k at its = after place thing k at its
 
 none_here : (line : ℕ) (o : Option DesignKind) (more : List (At DesignKind)) → cons_option (fault_if line o) more ≡ [] → (o ≡ None) × (more ≡ [])
 none_here line None more h = (refl, h)
@@ -115,7 +115,7 @@ no_fault modules library (x ∷ xs) all =
 whole : (modules : List Module) (library : Library) → AreDistinct (module_names modules) → (top : ℕ) (body : Module) → slice_get modules top ≡ Some body
     → placed_faults modules library (instances_of modules body) ≡ map (denoted modules) (faults_below (all_steps modules library) top)
 whole modules library distinct top body is =
-    same_faults modules library distinct (length modules) top (top ∷ []) (top_spot body) is ((body, is, refl), tt)
+    same_faults modules library distinct (length modules) top (top ∷ []) (top_scope body) is ((body, is, refl), tt)
     ∙ ap (λ (n : ℕ). map (denoted modules) (faults_from (all_steps modules library) n (top ∷ []) top 0)) (sym (length-map modules (steps_in modules library)))
 
 -- the first fault that the walk finds

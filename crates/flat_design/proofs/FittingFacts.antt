@@ -3,19 +3,19 @@ use Rattle.std.proofs.Common.{◌≡◌, ◌+◌, ◌&&◌, ℕ, zero, suc, Bool
 use Rattle.std.specs.List.{find}
 use Rattle.source_types.specs.declared.netlists.Bit.{Bit}
 use Rattle.source_types.specs.declared.netlists.Link.{Link}
-use Rattle.sdc_model.specs.Connections.{Terminal, fits, link_fits, names_of, ordered_fit}
-use Rattle.sdc_model.specs.Words.{same_text}
+use Rattle.flat_model.specs.Connections.{Terminal, fits, link_fits, names_of, ordered_fit}
+use Rattle.text_model.specs.Words.{same_text}
 use Rattle.flat_design.specs.Fitting.{fit_from, fits_at, place_fits, widths_of}
 use Rattle.flat_design.specs.Names.{place_of}
 use Rattle.flat_design.proofs.TableFacts.{at_place, first_found}
 
--- behind a terminal, places count on
-fit_behind : (width : ℕ) (widths : List ℕ) (place : ℕ) (connections : List (List Bit)) → fit_from (width ∷ widths) (suc place) connections ≡ fit_from widths place connections
-fit_behind width widths place [] = refl
-fit_behind width widths place (bits ∷ rest) =
+-- after a terminal, places count on
+fit_after : (width : ℕ) (widths : List ℕ) (place : ℕ) (connections : List (List Bit)) → fit_from (width ∷ widths) (suc place) connections ≡ fit_from widths place connections
+fit_after width widths place [] = refl
+fit_after width widths place (bits ∷ rest) =
     let e : suc place + 1 ≡ suc (place + 1) = omega arith in
     ap (λ (n : ℕ). fits_at widths place bits && fit_from (width ∷ widths) n rest) e
-    ∙ ap (λ (b : Bool). fits_at widths place bits && b) (fit_behind width widths (place + 1) rest)
+    ∙ ap (λ (b : Bool). fits_at widths place bits && b) (fit_after width widths (place + 1) rest)
 
 -- without a terminal, a connection does not fit
 pub fit_ordered : (terminals : List Terminal) (connections : List (List Bit)) → fit_from (widths_of terminals) 0 connections ≡ ordered_fit terminals connections
@@ -25,7 +25,7 @@ fit_ordered (terminal ∷ terminals) [] = refl
 fit_ordered (terminal ∷ terminals) (bits ∷ rest) =
     let e : 0 + 1 ≡ suc 0 = omega arith in
     ap (λ (n : ℕ). fits terminal.width bits && fit_from (widths_of (terminal ∷ terminals)) n rest) e
-    ∙ ap (λ (b : Bool). fits terminal.width bits && b) (fit_behind terminal.width (widths_of terminals) 0 rest ∙ fit_ordered terminals rest)
+    ∙ ap (λ (b : Bool). fits terminal.width bits && b) (fit_after terminal.width (widths_of terminals) 0 rest ∙ fit_ordered terminals rest)
 
 abbrev shown : Option Terminal → List Bit → Bool
 shown None bits = false

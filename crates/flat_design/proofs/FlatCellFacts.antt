@@ -5,12 +5,12 @@ use Rattle.std.proofs.lemmas.Option.{slice_get_within}
 use Rattle.std.proofs.lemmas.Slice.Zip.{AllZip-long}
 use Rattle.std.specs.List.{AllZip}
 use Rattle.timing_types.specs.declared.designs.CellInfo.{CellInfo}
-use Rattle.sdc_model.specs.FlatDesign.{FlatCell, IsCell, port_pins}
-use Rattle.sdc_model.proofs.ListFacts.{element_at}
-use Rattle.flat_design.specs.declared.hierarchy.Hierarchy.{Hierarchy}
-use Rattle.flat_design.specs.declared.layout.CellRow.{CellRow}
+use Rattle.flat_model.specs.FlatDesign.{FlatCell, IsCell, port_pins}
+use Rattle.text_model.proofs.ListFacts.{element_at}
+use Rattle.flat_design.specs.declared.elaborate.hierarchy.Hierarchy.{Hierarchy}
+use Rattle.flat_design.specs.declared.elaborate.elaboration.CellRow.{CellRow}
 use Rattle.flat_design.specs.Hierarchy.{IsHierarchy, cell_name, cells_in}
-use Rattle.flat_design.specs.Layout.{kind_pins, pins_in}
+use Rattle.flat_design.specs.Elaboration.{kind_pins, pins_in}
 use Rattle.flat_design.specs.NamedFaults.{flat_of}
 use Rattle.flat_design.proofs.CellPlaces.{cell_there, cells_count, flat_cell}
 use Rattle.flat_design.proofs.HierarchyFacts.{one_at}
@@ -25,10 +25,10 @@ pub record IsRowOf (design : Hierarchy) (n : ℕ) (cell : FlatCell) (row : CellR
   pub kind : slice_get design.library.now.cells row.kind ≡ Some cell.is.kind
   pub first : row.first_pin ≡ cell.first
 
-pub row_is : (design : Hierarchy) (n : ℕ) (cell : FlatCell) (row : CellRow) → IsHierarchy design → slice_get design.layout.cells n ≡ Some row
+pub row_is : (design : Hierarchy) (n : ℕ) (cell : FlatCell) (row : CellRow) → IsHierarchy design → slice_get design.elaboration.cells n ≡ Some row
     → slice_get (flat_of design).cells n ≡ Some cell → IsRowOf design n cell row
 row_is design n cell row is row_at at =
-    let known = is.layout.cells n row row_at in
+    let known = is.elaboration.cells n row row_at in
     let own = cell_there (length (port_pins design.top.now)) (cells_in design) n known.cell known.at in
     let same : flat_cell known.cell (length (port_pins design.top.now) + pins_in (take n (cells_in design))) ≡ cell = one_at (flat_of design).cells n _ _ own at in
     record {
@@ -40,13 +40,13 @@ row_is design n cell row is row_at at =
 -- ---- cells by name
 
 -- the number of a cell's first pin is small
-pub first_low : (design : Hierarchy) (n : ℕ) (row : CellRow) → IsHierarchy design → slice_get design.layout.cells n ≡ Some row → row.first_pin ≤ 1000000
+pub first_low : (design : Hierarchy) (n : ℕ) (row : CellRow) → IsHierarchy design → slice_get design.elaboration.cells n ≡ Some row → row.first_pin ≤ 1000000
 first_low design n row is row_at =
-    let known = is.layout.cells n row row_at in
+    let known = is.elaboration.cells n row row_at in
     let part = parts_le kind_pins (cells_in design) n in
     let own = known.first in
-    let all = is.layout.pins in
-    let few = is.layout.few_pins in
+    let all = is.elaboration.pins in
+    let few = is.elaboration.few_pins in
     omega (arith, part, own, all, few)
 
 pub flat_count : (design : Hierarchy) → length (flat_of design).cells ≡ length (cells_in design)
@@ -56,7 +56,7 @@ flat_count design = cells_count (length (port_pins design.top.now)) (cells_in de
 pub record IsNext (design : Hierarchy) (n : ℕ) (name : List ℕ) (cell : FlatCell) : Type 0 where
   pub at : slice_get (flat_of design).cells n ≡ Some cell
   pub named : name ≡ cell_name cell.is
-  pub low : n < length design.layout.cells
+  pub low : n < length design.elaboration.cells
 
 pub next_cell : (design : Hierarchy) (names : List (List ℕ)) (n : ℕ) (name : List ℕ) → IsHierarchy design → names ≡ map cell_name (cells_in design)
     → slice_get names n ≡ Some name → (cell : FlatCell) × IsNext design n name cell
@@ -64,7 +64,7 @@ next_cell design names n name is named at =
     let low = slice_get_within names n name at in
     let a : length names ≡ length (map cell_name (cells_in design)) = ap length named in
     let b : length (map cell_name (cells_in design)) ≡ length (cells_in design) = length-map (cells_in design) cell_name in
-    let count = is.layout.cell_count in
+    let count = is.elaboration.cell_count in
     let found = element_at (cells_in design) n (omega (arith, low, a, b)) in
     let own = map_at cell_name (cells_in design) n found.0 found.1 in (
       flat_cell found.0 (length (port_pins design.top.now) + pins_in (take n (cells_in design))),

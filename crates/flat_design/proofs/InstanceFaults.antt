@@ -11,18 +11,18 @@ use Rattle.sdc_base.specs.declared.memory.At.{At}
 use Rattle.source_types.specs.declared.fault_kinds.DesignKind.{DesignKind}
 use Rattle.source_types.specs.declared.fault_kinds.DesignKind.TheVariants as fault
 use Rattle.source_types.specs.declared.libraries.Library.{Library}
-use Rattle.source_types.specs.declared.library_cells.LibCell.{LibCell}
+use Rattle.pin_types.specs.declared.library_cells.LibCell.{LibCell}
 use Rattle.source_types.specs.declared.netlists.Instance.{Instance}
 use Rattle.source_types.specs.declared.netlists.Links.{Links}
 use Rattle.source_types.specs.declared.netlists.Module.{Module}
-use Rattle.sdc_model.specs.Connections.{cell_fault, instance_fault, links_fit, module_fault, ports_of}
-use Rattle.sdc_model.specs.Flattening.{fault_of}
-use Rattle.sdc_model.specs.Instances.{Placed, Spot, below, cell_named, entered, meant, module_named, spot_for, stands_in}
-use Rattle.sdc_model.specs.WellFormedDesign.{AreDistinct}
-use Rattle.sdc_model.specs.Words.{same_text}
-use Rattle.flat_design.specs.declared.walk.FaultAt.{FaultAt}
-use Rattle.flat_design.specs.declared.walk.Step.{Step}
-use Rattle.flat_design.specs.LayingOut.{denoted, instance_in, line_in}
+use Rattle.flat_model.specs.Connections.{cell_fault, instance_fault, links_fit, module_fault, ports_of}
+use Rattle.flat_model.specs.Flattening.{fault_of}
+use Rattle.flat_model.specs.Instances.{Placed, ModuleInstance, below, cell_named, entered, meant, module_named, scope_for, stands_in}
+use Rattle.text_model.specs.Names.{AreDistinct}
+use Rattle.text_model.specs.Words.{same_text}
+use Rattle.flat_design.specs.declared.elaborate.walk.FaultAt.{FaultAt}
+use Rattle.flat_design.specs.declared.elaborate.walk.Step.{Step}
+use Rattle.flat_design.specs.Elaborating.{denoted, instance_in, line_in}
 use Rattle.flat_design.specs.Names.{next_place, place_of}
 use Rattle.flat_design.specs.Steps.{all_steps, cell_place, cell_step, fault_step, fits_module, module_names, named_step, step_of, steps_in}
 use Rattle.flat_design.specs.Walk.{fault_at, faults_along, faults_at, faults_entered, faults_from, is_in, steps_of}
@@ -57,7 +57,7 @@ AreNamed modules [] (name ∷ names) = ⊥
 AreNamed modules (p ∷ ps) [] = ⊥
 AreNamed modules (p ∷ ps) (name ∷ names) = ((m : Module) × (slice_get modules p ≡ Some m) × (m.name ≡ name)) × AreNamed modules ps names
 
--- names tell modules apart
+-- modules are distinct by their names
 same_name : (modules : List Module) → AreDistinct (module_names modules) → (p q : ℕ) (m other : Module)
     → slice_get modules p ≡ Some m → slice_get modules q ≡ Some other → same_text m.name other.name ≡ (q == p)
 same_name modules distinct p q m other at_p at_q =
@@ -66,11 +66,11 @@ same_name modules distinct p q m other at_p at_q =
           let e : Some m ≡ Some other = sym at_p ∙ (ap (λ (n : ℕ). slice_get modules n) (sym same) ∙ at_q) in
           let one : m ≡ other = cc in
           (bytes_eq-Decides m.name other.name).1 (ap (λ (x : Module). x.name) one) ∙ sym (eq-eqb q p same)
-      | inr apart ↦
-          false_from_ne_true (same_text m.name other.name) (λ h. apart (distinct q p other.name
+      | inr differ ↦
+          false_from_ne_true (same_text m.name other.name) (λ h. differ (distinct q p other.name
           (map_at (λ (x : Module). x.name) modules q other at_q)
           (map_at (λ (x : Module). x.name) modules p m at_p ∙ ap (λ (n : List ℕ). Some n) ((bytes_eq-Decides m.name other.name).0 h))))
-          ∙ sym (ne_eqb q p apart)
+          ∙ sym (ne_eqb q p differ)
     ]
 
 -- a module stands in itself where its place is among those around
@@ -119,7 +119,7 @@ instance_none modules library placed none None is = rw (none, is, instance_fault
 instance_none modules library placed none (Some cell) is = rw (none, is, instance_fault, meant) refl
 
 pub instance_some : (modules : List Module) (library : Library) (placed : Placed) (b : Module) → module_named modules placed.instance.kind ≡ Some b
-    → instance_fault modules library placed ≡ module_fault placed.spot b placed.instance.links
+    → instance_fault modules library placed ≡ module_fault placed.scope b placed.instance.links
 instance_some modules library placed b named = rw (named, instance_fault, meant) refl
 
 cell_faults : (modules : List Module) (library : Library) (levels : ℕ) (inner : ℕ → List FaultAt) (around : List ℕ) (m place kind : ℕ) (placed : Placed)
@@ -145,47 +145,47 @@ width_step modules m place line is found inner same false =
 
 module_faults : (modules : List Module) (library : Library) (levels : ℕ) (inner : ℕ → List FaultAt) (around : List ℕ) (m place : ℕ) (placed : Placed)
     (p : ℕ) (b : Module) → line_in (instance_in (slice_get modules m) place) ≡ placed.instance.line → module_named modules placed.instance.kind ≡ Some b
-    → (near : Bool) → stands_in b placed.spot ≡ near → is_in around p ≡ near
-    → placed_faults modules library (below modules levels (spot_for placed b)) ≡ map (denoted modules) (inner p)
+    → (near : Bool) → stands_in b placed.scope ≡ near → is_in around p ≡ near
+    → placed_faults modules library (below modules levels (scope_for placed b)) ≡ map (denoted modules) (inner p)
     → placed_faults modules library (listed modules levels placed)
     ≡ map (denoted modules) (faults_entered around m place p (fits_module (Some b) placed.instance.links) (inner p))
 module_faults modules library levels inner around m place placed p b line named true stands inside same =
     rw (named, stands, inside) (ap (λ (o : Option DesignKind). cons_option (fault_if placed.instance.line o) [])
-    (instance_some modules library placed b named ∙ cond-true (stands_in b placed.spot) _ _ stands)
+    (instance_some modules library placed b named ∙ cond-true (stands_in b placed.scope) _ _ stands)
     ∙ ap (λ (n : ℕ). fault_of n fault.ModuleCycle ∷ []) (sym line))
 module_faults modules library levels inner around m place placed p b line named false stands inside same =
     rw (named, stands, inside) (ap (λ (o : Option DesignKind). cons_option (fault_if placed.instance.line o)
-    (placed_faults modules library (below modules levels (spot_for placed b))))
-    (instance_some modules library placed b named ∙ cond-false (stands_in b placed.spot) _ _ stands)
+    (placed_faults modules library (below modules levels (scope_for placed b))))
+    (instance_some modules library placed b named ∙ cond-false (stands_in b placed.scope) _ _ stands)
     ∙ width_step modules m place placed.instance.line line
-    (placed_faults modules library (below modules levels (spot_for placed b))) (inner p) same (links_fit (ports_of b) placed.instance.links))
+    (placed_faults modules library (below modules levels (scope_for placed b))) (inner p) same (links_fit (ports_of b) placed.instance.links))
 
 -- ---- the instances of a module
 
-abbrev pub placed_at : Spot → ℕ → Instance → Placed
-placed_at spot place instance = record { spot = spot; place = place; instance = instance }
+abbrev pub placed_at : ModuleInstance → ℕ → Instance → Placed
+placed_at scope place instance = record { scope = scope; place = place; instance = instance }
 
 -- what is known of the modules that the instances of a module enter
-abbrev pub InnerDenoted : List Module → Library → ℕ → (ℕ → List FaultAt) → Spot → Type 0
-InnerDenoted modules library levels inner spot = (p : ℕ) (b : Module) (place : ℕ) (instance : Instance) → slice_get modules p ≡ Some b
-    → placed_faults modules library (below modules levels (spot_for (placed_at spot place instance) b)) ≡ map (denoted modules) (inner p)
+abbrev pub InnerDenoted : List Module → Library → ℕ → (ℕ → List FaultAt) → ModuleInstance → Type 0
+InnerDenoted modules library levels inner scope = (p : ℕ) (b : Module) (place : ℕ) (instance : Instance) → slice_get modules p ≡ Some b
+    → placed_faults modules library (below modules levels (scope_for (placed_at scope place instance) b)) ≡ map (denoted modules) (inner p)
 
 one_named : (modules : List Module) (library : Library) → AreDistinct (module_names modules) → (levels : ℕ) (inner : ℕ → List FaultAt) (around : List ℕ)
-    (m : ℕ) (spot : Spot) → AreNamed modules around spot.around → InnerDenoted modules library levels inner spot → (place : ℕ) (instance : Instance)
+    (m : ℕ) (scope : ModuleInstance) → AreNamed modules around scope.around → InnerDenoted modules library levels inner scope → (place : ℕ) (instance : Instance)
     → line_in (instance_in (slice_get modules m) place) ≡ instance.line
     → (found : Option ℕ) → place_of (module_names modules) instance.kind ≡ found
-    → placed_faults modules library (listed modules levels (placed_at spot place instance))
+    → placed_faults modules library (listed modules levels (placed_at scope place instance))
     ≡ map (denoted modules) (faults_at inner around m place (named_step modules library instance found))
-one_named modules library distinct levels inner around m spot named within place instance line None is =
-    cell_faults modules library levels inner around m place (cell_place library instance.kind) (placed_at spot place instance) line
+one_named modules library distinct levels inner around m scope named within place instance line None is =
+    cell_faults modules library levels inner around m place (cell_place library instance.kind) (placed_at scope place instance) line
     (sym (first_found (λ (x : Module). x.name) modules instance.kind) ∙ ap (at_place modules) is)
     (cell_named library instance.kind) refl
-one_named modules library distinct levels inner around m spot named within place instance line (Some p) is =
+one_named modules library distinct levels inner around m scope named within place instance line (Some p) is =
     let at : (b : Module) × (slice_get modules p ≡ Some b) = found_at (λ (x : Module). x.name) modules instance.kind p is in
     let there : module_named modules instance.kind ≡ Some at.0 =
     sym (first_found (λ (x : Module). x.name) modules instance.kind) ∙ (ap (at_place modules) is ∙ at.1) in
-    module_faults modules library levels inner around m place (placed_at spot place instance) p at.0 line there
-    (is_in around p) (stands_at modules distinct p at.0 at.1 around spot.around named) refl (within p at.0 place instance at.1)
+    module_faults modules library levels inner around m place (placed_at scope place instance) p at.0 line there
+    (is_in around p) (stands_at modules distinct p at.0 at.1 around scope.around named) refl (within p at.0 place instance at.1)
     ∙ ap (λ (o : Option Module). map (denoted modules) (faults_entered around m place p (fits_module o instance.links) (inner p))) (sym there)
 
 drop_head : (xs : List Instance) (n : ℕ) (x : Instance) (rest : List Instance) → drop n xs ≡ x ∷ rest → (slice_get xs n ≡ Some x) × (drop (n + 1) xs ≡ rest)
@@ -194,31 +194,31 @@ drop_head [] (suc n) x rest h = let bad : [] ≡ x ∷ rest = h in cc
 drop_head (y ∷ ys) zero x rest h =
     let whole : y ∷ ys ≡ x ∷ rest = h in
     let first : y ≡ x = cc in
-    let behind : ys ≡ rest = cc in
-    (ap (λ (z : Instance). Some z) first, behind)
+    let after : ys ≡ rest = cc in
+    (ap (λ (z : Instance). Some z) first, after)
 drop_head (y ∷ ys) (suc n) x rest h =
     let r = drop_head ys n x rest h in
     let e : suc n + 1 ≡ suc (n + 1) = omega arith in
     (r.0, ap (λ (k : ℕ). drop k (y ∷ ys)) e ∙ r.1)
 
 rest_faults : (modules : List Module) (library : Library) → AreDistinct (module_names modules) → (levels : ℕ) (inner : ℕ → List FaultAt) (around : List ℕ)
-    (m : ℕ) (spot : Spot) → slice_get modules m ≡ Some spot.body → AreNamed modules around spot.around → InnerDenoted modules library levels inner spot
-    → (place : ℕ) (rest : List Instance) → drop place spot.body.instances ≡ rest
-    → placed_faults modules library (flat_map (listed modules levels) (map (λ (item : ℕ × Instance). placed_at spot item.0 item.1) (enumerate_from place rest)))
+    (m : ℕ) (scope : ModuleInstance) → slice_get modules m ≡ Some scope.body → AreNamed modules around scope.around → InnerDenoted modules library levels inner scope
+    → (place : ℕ) (rest : List Instance) → drop place scope.body.instances ≡ rest
+    → placed_faults modules library (flat_map (listed modules levels) (map (λ (item : ℕ × Instance). placed_at scope item.0 item.1) (enumerate_from place rest)))
     ≡ map (denoted modules) (faults_along inner around m place (map (step_of modules library) rest))
-rest_faults modules library distinct levels inner around m spot body named within place [] is = refl
-rest_faults modules library distinct levels inner around m spot body named within place (one ∷ rest) is =
-    let at = drop_head spot.body.instances place one rest is in
+rest_faults modules library distinct levels inner around m scope body named within place [] is = refl
+rest_faults modules library distinct levels inner around m scope body named within place (one ∷ rest) is =
+    let at = drop_head scope.body.instances place one rest is in
     let line : line_in (instance_in (slice_get modules m) place) ≡ one.line =
     ap (λ (o : Option Module). line_in (instance_in o place)) body ∙ ap line_in at.0 in
-    let behind = flat_map (listed modules levels) (map (λ (item : ℕ × Instance). placed_at spot item.0 item.1) (enumerate_from (place + 1) rest)) in
+    let after = flat_map (listed modules levels) (map (λ (item : ℕ × Instance). placed_at scope item.0 item.1) (enumerate_from (place + 1) rest)) in
     let later = faults_along inner around m (place + 1) (map (step_of modules library) rest) in
     let here = faults_at inner around m place (step_of modules library one) in
-    filter_map-append (placed_fault modules library) (listed modules levels (placed_at spot place one)) behind
-    ∙ (ap (λ (xs : List (At DesignKind)). xs ++ placed_faults modules library behind)
-    (one_named modules library distinct levels inner around m spot named within place one line (place_of (module_names modules) one.kind) refl)
+    filter_map-append (placed_fault modules library) (listed modules levels (placed_at scope place one)) after
+    ∙ (ap (λ (xs : List (At DesignKind)). xs ++ placed_faults modules library after)
+    (one_named modules library distinct levels inner around m scope named within place one line (place_of (module_names modules) one.kind) refl)
     ∙ (ap (λ (xs : List (At DesignKind)). map (denoted modules) here ++ xs)
-    (rest_faults modules library distinct levels inner around m spot body named within (place + 1) rest at.1)
+    (rest_faults modules library distinct levels inner around m scope body named within (place + 1) rest at.1)
     ∙ sym (map-append (denoted modules) here later)))
 
 -- ---- all instances
@@ -228,14 +228,14 @@ pub steps_at : (modules : List Module) (library : Library) (m : ℕ) (body : Mod
 steps_at modules library m body is =
     get_or_from_slice_get (all_steps modules library) m (steps_in modules library body) [] (map_at (steps_in modules library) modules m body is)
 
--- the faults in a module where it stands
-pub same_faults : (modules : List Module) (library : Library) → AreDistinct (module_names modules) → (levels m : ℕ) (around : List ℕ) (spot : Spot)
-    → slice_get modules m ≡ Some spot.body → AreNamed modules around spot.around
-    → placed_faults modules library (below modules levels spot) ≡ map (denoted modules) (faults_from (all_steps modules library) levels around m 0)
-same_faults modules library distinct zero m around spot body named = refl
-same_faults modules library distinct (suc levels) m around spot body named =
-    rest_faults modules library distinct levels (λ p. faults_from (all_steps modules library) levels (p ∷ around) p 0) around m spot body named
-    (λ p b place instance is. same_faults modules library distinct levels p (p ∷ around) (spot_for (placed_at spot place instance) b) is ((b, is, refl), named))
-    0 spot.body.instances refl
+-- the faults in a module instance
+pub same_faults : (modules : List Module) (library : Library) → AreDistinct (module_names modules) → (levels m : ℕ) (around : List ℕ) (scope : ModuleInstance)
+    → slice_get modules m ≡ Some scope.body → AreNamed modules around scope.around
+    → placed_faults modules library (below modules levels scope) ≡ map (denoted modules) (faults_from (all_steps modules library) levels around m 0)
+same_faults modules library distinct zero m around scope body named = refl
+same_faults modules library distinct (suc levels) m around scope body named =
+    rest_faults modules library distinct levels (λ p. faults_from (all_steps modules library) levels (p ∷ around) p 0) around m scope body named
+    (λ p b place instance is. same_faults modules library distinct levels p (p ∷ around) (scope_for (placed_at scope place instance) b) is ((b, is, refl), named))
+    0 scope.body.instances refl
     ∙ ap (λ (steps : List Step). map (denoted modules) (faults_along (λ p. faults_from (all_steps modules library) levels (p ∷ around) p 0) around m 0 steps))
-    (sym (steps_at modules library m spot.body body))
+    (sym (steps_at modules library m scope.body body))

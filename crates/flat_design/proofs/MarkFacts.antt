@@ -22,7 +22,7 @@ marks_as marks i mark new inside P own j before =
     elim (cases_eq i j) [
       | inl same ↦
           subst (λ (n : ℕ). P n (get_or (set marks i mark) n new)) same (subst (P i) (sym (get_or-set_same marks i mark new inside)) own)
-      | inr apart ↦ subst (P j) (sym (get_or-set_other marks i j mark new (λ e. apart (sym e)))) (before apart)
+      | inr distinct ↦ subst (P j) (sym (get_or-set_other marks i j mark new (λ e. distinct (sym e)))) (before distinct)
     ]
 
 -- one thing more is marked as others are
@@ -30,4 +30,4 @@ pub marked_more : {M : Type 0} (is_marked : M → Bool) (mark new : M) → is_ma
     → ((j : ℕ) → is_marked (get_or marks j new) ≡ is_in others j) → (j : ℕ) → is_marked (get_or (set marks i mark) j new) ≡ is_in (i ∷ others) j
 marked_more is_marked mark new is marks others i inside known j =
     marks_as marks i mark new inside (λ n one. is_marked one ≡ is_in (i ∷ others) n)
-    (is ∙ sym (or_left (i == i) (is_in others i) (eq-eqb i i refl))) j (λ apart. known j ∙ sym (in_other i j others apart))
+    (is ∙ sym (or_left (i == i) (is_in others i) (eq-eqb i i refl))) j (λ distinct. known j ∙ sym (in_other i j others distinct))

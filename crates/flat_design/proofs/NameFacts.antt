@@ -5,13 +5,13 @@ use Rattle.std.proofs.lemmas.Simd.{map-map}
 use Rattle.std.specs.List.{flat_map}
 use Rattle.source_types.specs.declared.netlists.Range.{Range}
 use Rattle.source_types.specs.declared.netlists.Wire.{Wire}
-use Rattle.sdc_model.specs.FlatNets.{bit_name, net_name, nets_in, wire_nets}
-use Rattle.sdc_model.specs.Instances.{Spot}
-use Rattle.sdc_model.specs.Ranges.{indices, width}
-use Rattle.sdc_model.proofs.ListFacts.{flat_map_same}
-use Rattle.sdc_model.proofs.RangeFacts.{indices_length}
+use Rattle.flat_model.specs.FlatNets.{bit_name, net_name, nets_in, wire_nets}
+use Rattle.flat_model.specs.Instances.{ModuleInstance}
+use Rattle.netlist_model.specs.Ranges.{indices, width}
+use Rattle.text_model.proofs.ListFacts.{flat_map_same}
+use Rattle.netlist_model.proofs.RangeFacts.{indices_length}
 use Rattle.flat_design.specs.Hierarchy.{bit_names, wire_names}
-use Rattle.flat_design.proofs.BitsApart.{net_of}
+use Rattle.flat_design.proofs.DistinctBits.{net_of}
 use Rattle.flat_design.proofs.PlaceFacts.{flat_one, take_one}
 use Rattle.flat_design.proofs.RangeFacts.{map_at}
 
@@ -19,23 +19,23 @@ pub map_flat : {A B C : Type 0} (g : B → C) (f : A → List B) (xs : List A) �
 map_flat g f [] = refl
 map_flat g f (x ∷ xs) = map-append g (f x) (flat_map f xs) ∙ ap (λ ys. map g (f x) ++ ys) (map_flat g f xs)
 
-pub names_in : (spot : Spot) → map net_name (nets_in spot) ≡ flat_map (wire_names spot.prefix) spot.body.nets
-names_in spot =
-    map_flat net_name (wire_nets spot) spot.body.nets
-    ∙ flat_map_same (λ (wire : Wire). map net_name (wire_nets spot wire)) (wire_names spot.prefix)
-    (λ wire. map-map net_name (net_of spot wire) (indices wire.range)) spot.body.nets
+pub names_in : (scope : ModuleInstance) → map net_name (nets_in scope) ≡ flat_map (wire_names scope.prefix) scope.body.nets
+names_in scope =
+    map_flat net_name (wire_nets scope) scope.body.nets
+    ∙ flat_map_same (λ (wire : Wire). map net_name (wire_nets scope wire)) (wire_names scope.prefix)
+    (λ wire. map-map net_name (net_of scope wire) (indices wire.range)) scope.body.nets
 
 -- the names of one more module
-pub names_more : (spots : List Spot) (n : ℕ) (spot : Spot) (names : List (List ℕ)) (prefix : List ℕ) (nets : List Wire)
-    → slice_get spots n ≡ Some spot → prefix ≡ spot.prefix → nets ≡ spot.body.nets → names ≡ map net_name (flat_map nets_in (take n spots))
-    → names ++ flat_map (wire_names prefix) nets ≡ map net_name (flat_map nets_in (take (n + 1) spots))
-names_more spots n spot names prefix nets at same_prefix same_nets so_far =
+pub names_more : (scopes : List ModuleInstance) (n : ℕ) (scope : ModuleInstance) (names : List (List ℕ)) (prefix : List ℕ) (nets : List Wire)
+    → slice_get scopes n ≡ Some scope → prefix ≡ scope.prefix → nets ≡ scope.body.nets → names ≡ map net_name (flat_map nets_in (take n scopes))
+    → names ++ flat_map (wire_names prefix) nets ≡ map net_name (flat_map nets_in (take (n + 1) scopes))
+names_more scopes n scope names prefix nets at same_prefix same_nets so_far =
     ap (λ (xs : List (List ℕ)). xs ++ flat_map (wire_names prefix) nets) so_far
-    ∙ (ap (λ (p : List ℕ). map net_name (flat_map nets_in (take n spots)) ++ flat_map (wire_names p) nets) same_prefix
-    ∙ (ap (λ (ws : List Wire). map net_name (flat_map nets_in (take n spots)) ++ flat_map (wire_names spot.prefix) ws) same_nets
-    ∙ (ap (λ (xs : List (List ℕ)). map net_name (flat_map nets_in (take n spots)) ++ xs) (sym (names_in spot))
-    ∙ (sym (map-append net_name (flat_map nets_in (take n spots)) (nets_in spot))
-    ∙ ap (map net_name) (ap (λ ys. flat_map nets_in (take n spots) ++ ys) (sym (append-nil (nets_in spot))) ∙ sym (flat_one nets_in spots n spot at))))))
+    ∙ (ap (λ (p : List ℕ). map net_name (flat_map nets_in (take n scopes)) ++ flat_map (wire_names p) nets) same_prefix
+    ∙ (ap (λ (ws : List Wire). map net_name (flat_map nets_in (take n scopes)) ++ flat_map (wire_names scope.prefix) ws) same_nets
+    ∙ (ap (λ (xs : List (List ℕ)). map net_name (flat_map nets_in (take n scopes)) ++ xs) (sym (names_in scope))
+    ∙ (sym (map-append net_name (flat_map nets_in (take n scopes)) (nets_in scope))
+    ∙ ap (map net_name) (ap (λ ys. flat_map nets_in (take n scopes) ++ ys) (sym (append-nil (nets_in scope))) ∙ sym (flat_one nets_in scopes n scope at))))))
 
 -- the names of one more bit
 pub bits_more : (prefix own : List ℕ) (range : Option Range) (place : ℕ) (index : Option ℕ) (name : List ℕ) (start names : List (List ℕ))

@@ -8,8 +8,8 @@ use Rattle.indexmap.specs.IndexMap.{IndexMap, get_by}
 use Rattle.std.specs.List.{list_any}
 use Rattle.std.specs.Str.{bytes_eq}
 use Rattle.source_types.specs.declared.netlists.Link.{Link}
-use Rattle.sdc_model.specs.Connections.{Terminal, link_fits, named_fit, names_of}
-use Rattle.sdc_model.specs.Words.{same_text}
+use Rattle.flat_model.specs.Connections.{Terminal, link_fits, named_fit, names_of}
+use Rattle.text_model.specs.Words.{same_text}
 use Rattle.flat_design.specs.Fitting.{fits_first_by, named_by, named_from, place_fits, stands_first, widths_of}
 use Rattle.flat_design.specs.Names.{IsTable, next_place, place_of}
 use Rattle.flat_design.proofs.FittingFacts.{fit_named}
@@ -19,7 +19,7 @@ same_suc : (p n : ℕ) → (suc p == suc n) ≡ (p == n)
 same_suc p n =
     elim (cases_eq p n) [
       | inl same ↦ eq-eqb (suc p) (suc n) (ap suc same) ∙ sym (eq-eqb p n same)
-      | inr apart ↦ ne_eqb (suc p) (suc n) (λ e. apart (omega arith)) ∙ sym (ne_eqb p n apart)
+      | inr distinct ↦ ne_eqb (suc p) (suc n) (λ e. distinct (omega arith)) ∙ sym (ne_eqb p n distinct)
     ]
 
 first_next : (found : Option ℕ) (n : ℕ) → stands_first (next_place found) (suc n) ≡ stands_first found n
@@ -32,12 +32,12 @@ first_step found n other e true = ne_eqb 0 (suc n) (λ h. omega arith)
 first_step found n other e false = first_next found n ∙ e
 
 -- a name stands first where no name in front of it is the same
-pub first_in : (front behind : List (List ℕ)) (name : List ℕ) → stands_first (place_of (front ++ name ∷ behind) name) (length front) ≡ not (list_any (λ f. same_text f name) front)
-first_in [] behind name =
+pub first_in : (front after : List (List ℕ)) (name : List ℕ) → stands_first (place_of (front ++ name ∷ after) name) (length front) ≡ not (list_any (λ f. same_text f name) front)
+first_in [] after name =
     let same : same_text name name ≡ true = (bytes_eq-Decides name name).1 refl in
     rw same refl
-first_in (f ∷ front) behind name =
-    first_step (place_of (front ++ name ∷ behind) name) (length front) (list_any (λ g. same_text g name) front) (first_in front behind name) (same_text f name)
+first_in (f ∷ front) after name =
+    first_step (place_of (front ++ name ∷ after) name) (length front) (list_any (λ g. same_text g name) front) (first_in front after name) (same_text f name)
 
 swapped : (x y : Bool) → (x ≡ true → y ≡ true) → (y ≡ true → x ≡ true) → x ≡ y
 swapped true y f g = sym (f refl)
@@ -63,13 +63,13 @@ one_fits : (first before own whole other : Bool) → first ≡ not before → wh
 one_fits first true own whole other e same = ap (λ (b : Bool). (b && own) && whole) e ∙ sym (and-false own)
 one_fits first false own whole other e same = ap (λ (b : Bool). (b && own) && whole) e ∙ ap (λ (b : Bool). own && b) same
 
--- connections behind others
-fits_behind : (terminals : List Terminal) (links : List Link) (front before : List (List ℕ)) (at : ℕ) (all : List (List ℕ))
+-- connections after others
+fits_after : (terminals : List Terminal) (links : List Link) (front before : List (List ℕ)) (at : ℕ) (all : List (List ℕ))
     → at ≡ length front → all ≡ front ++ map (λ (link : Link). link.port) links
     → ((q : List ℕ) → list_any (same_text q) before ≡ list_any (λ f. same_text f q) front)
     → named_from terminals all at links ≡ named_fit terminals before links
-fits_behind terminals [] front before at all at_is all_is known = refl
-fits_behind terminals (link ∷ rest) front before at all at_is all_is known =
+fits_after terminals [] front before at all at_is all_is known = refl
+fits_after terminals (link ∷ rest) front before at all at_is all_is known =
     let names = map (λ (l : Link). l.port) rest in
     let first : stands_first (place_of all link.port) at ≡ not (list_any (same_text link.port) before) =
     ap (λ (ns : List (List ℕ)). stands_first (place_of ns link.port) at) all_is
@@ -77,13 +77,13 @@ fits_behind terminals (link ∷ rest) front before at all at_is all_is known =
     ∙ (first_in front names link.port ∙ ap not (sym (known link.port)))) in
     one_fits (stands_first (place_of all link.port) at) (list_any (same_text link.port) before) (link_fits terminals link)
     (named_from terminals all (at + 1) rest) (named_fit terminals (link.port ∷ before) rest) first
-    (fits_behind terminals rest (front ++ link.port ∷ []) (link.port ∷ before) (at + 1) all
+    (fits_after terminals rest (front ++ link.port ∷ []) (link.port ∷ before) (at + 1) all
     (ap (λ (n : ℕ). n + 1) at_is ∙ sym (length_push front link.port))
     (all_is ∙ sym (append_assoc front (link.port ∷ []) names))
     (λ q. ap (λ (b : Bool). same_text q link.port || b) (known q) ∙ sym (any_push front link.port q)))
 
 pub fits_named : (terminals : List Terminal) (links : List Link) → named_from terminals (map (λ (link : Link). link.port) links) 0 links ≡ named_fit terminals [] links
-fits_named terminals links = fits_behind terminals links [] [] 0 (map (λ (link : Link). link.port) links) refl refl (λ q. refl)
+fits_named terminals links = fits_after terminals links [] [] 0 (map (λ (link : Link). link.port) links) refl refl (λ q. refl)
 
 -- the tables tell the same
 one_by : {S : Type 0} (terminals : List Terminal) (all : List (List ℕ)) (names table : IndexMap (Bor (List ℕ)) ℕ S) (widths : List ℕ) (at : ℕ) (link : Link)

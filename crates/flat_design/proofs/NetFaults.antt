@@ -4,19 +4,19 @@ use Rattle.std.proofs.lemmas.Bool.{lt-ltb, ltb-true}
 use Rattle.std.proofs.lemmas.List.{length-map, take-map}
 use Rattle.source_types.specs.declared.fault_kinds.DesignKind.{DesignKind}
 use Rattle.source_types.specs.declared.fault_kinds.DesignKind.TheVariants as fault
-use Rattle.sdc_model.specs.FlatFaults.{NetHas, is_among, net_line}
-use Rattle.sdc_model.specs.FlatNets.{FlatNet, bit_of, net_name}
-use Rattle.sdc_model.specs.Flattening.{FirstOfNets, NoneOfNets, fault_of}
-use Rattle.sdc_model.proofs.ListFacts.{element_at}
-use Rattle.flat_design.specs.declared.feeds.FeedRow.{FeedRow}
-use Rattle.flat_design.specs.declared.hierarchy.Hierarchy.{Hierarchy}
+use Rattle.flat_model.specs.FlatFaults.{NetHas, is_among, net_line}
+use Rattle.flat_model.specs.FlatNets.{FlatNet, bit_of, net_name}
+use Rattle.flat_model.specs.Flattening.{FirstOfNets, NoneOfNets, fault_of}
+use Rattle.text_model.proofs.ListFacts.{element_at}
+use Rattle.flat_design.specs.declared.drivers.driver_edges.DriverEdge.{DriverEdge}
+use Rattle.flat_design.specs.declared.elaborate.hierarchy.Hierarchy.{Hierarchy}
 use Rattle.flat_design.specs.NamedFaults.{AreSourcesOf, HaveNoneBefore, IsFirstKind, NumberHas, flat_of}
-use Rattle.flat_design.specs.Sources.{fed}
+use Rattle.flat_design.specs.Sources.{driven_by}
 use Rattle.flat_design.proofs.FirstFaults.{first_here, none_all, none_more}
 use Rattle.flat_design.proofs.RangeFacts.{map_at}
 
 -- what a net's number has is what the net has, and back
-to_net : (design : Hierarchy) (names : List (List ℕ)) (rows : List FeedRow) (n : ℕ) (net : FlatNet) → names ≡ map net_name (flat_of design).nets
+to_net : (design : Hierarchy) (names : List (List ℕ)) (rows : List DriverEdge) (n : ℕ) (net : FlatNet) → names ≡ map net_name (flat_of design).nets
     → AreSourcesOf design rows → slice_get (flat_of design).nets n ≡ Some net → (kind : DesignKind)
     → NumberHas names rows n (net_name net) kind → NetHas (flat_of design) n net kind
 to_net design names rows n net named are at fault.DoubleName has =
@@ -24,12 +24,12 @@ to_net design names rows n net named are at fault.DoubleName has =
 to_net design names rows n net named are at fault.BadName has = has
 to_net design names rows n net named are at fault.TwoDrivers has =
     let count = are.count n (bit_of net) (map_at bit_of (flat_of design).nets n net at) in
-    let two = ltb-true 1 (length (fed rows n)) has in
+    let two = ltb-true 1 (length (driven_by rows n)) has in
     omega (arith, two, count)
 to_net design names rows n net named are at fault.AssignCycle has = are.there n (bit_of net) (map_at bit_of (flat_of design).nets n net at) has
 to_net design names rows n net named are at _ has = has
 
-to_number : (design : Hierarchy) (names : List (List ℕ)) (rows : List FeedRow) (n : ℕ) (net : FlatNet) → names ≡ map net_name (flat_of design).nets
+to_number : (design : Hierarchy) (names : List (List ℕ)) (rows : List DriverEdge) (n : ℕ) (net : FlatNet) → names ≡ map net_name (flat_of design).nets
     → AreSourcesOf design rows → slice_get (flat_of design).nets n ≡ Some net → (kind : DesignKind)
     → NetHas (flat_of design) n net kind → NumberHas names rows n (net_name net) kind
 to_number design names rows n net named are at fault.DoubleName has =
@@ -37,7 +37,7 @@ to_number design names rows n net named are at fault.DoubleName has =
 to_number design names rows n net named are at fault.BadName has = has
 to_number design names rows n net named are at fault.TwoDrivers has =
     let count = are.count n (bit_of net) (map_at bit_of (flat_of design).nets n net at) in
-    lt-ltb 1 (length (fed rows n)) (omega (arith, has, count))
+    lt-ltb 1 (length (driven_by rows n)) (omega (arith, has, count))
 to_number design names rows n net named are at fault.AssignCycle has = are.back n (bit_of net) (map_at bit_of (flat_of design).nets n net at) has
 to_number design names rows n net named are at _ has = has
 
@@ -47,7 +47,7 @@ first_same : (Said Meant : DesignKind → Type 0) → ((kind : DesignKind) → S
 first_same Said Meant to from None none = λ kind has. none kind (from kind has)
 first_same Said Meant to from (Some kind) first = (to kind first.0, λ other has. first.1 other (from other has))
 
-net_first : (design : Hierarchy) (names : List (List ℕ)) (rows : List FeedRow) (n : ℕ) (net : FlatNet) (found : Option DesignKind)
+net_first : (design : Hierarchy) (names : List (List ℕ)) (rows : List DriverEdge) (n : ℕ) (net : FlatNet) (found : Option DesignKind)
     → names ≡ map net_name (flat_of design).nets → AreSourcesOf design rows → slice_get (flat_of design).nets n ≡ Some net
     → IsFirstKind (NumberHas names rows n (net_name net)) found → IsFirstKind (NetHas (flat_of design) n net) found
 net_first design names rows n net found named are at first =
@@ -55,7 +55,7 @@ net_first design names rows n net found named are at first =
     (to_number design names rows n net named are at) found first
 
 -- what the number of a net says, its net has
-said_of_net : (design : Hierarchy) (names : List (List ℕ)) (rows : List FeedRow) (n : ℕ) (net : FlatNet) (found : Option DesignKind)
+said_of_net : (design : Hierarchy) (names : List (List ℕ)) (rows : List DriverEdge) (n : ℕ) (net : FlatNet) (found : Option DesignKind)
     → names ≡ map net_name (flat_of design).nets → AreSourcesOf design rows → slice_get (flat_of design).nets n ≡ Some net
     → ((name : List ℕ) → slice_get names n ≡ Some name → IsFirstKind (NumberHas names rows n name) found) → IsFirstKind (NetHas (flat_of design) n net) found
 said_of_net design names rows n net found named are at says =
@@ -70,7 +70,7 @@ net_there design names n named low =
     element_at (flat_of design).nets n (omega (arith, low, same, count))
 
 -- the first net that has a fault
-pub net_fails : (design : Hierarchy) (names : List (List ℕ)) (rows : List FeedRow) (n line : ℕ) (kind : DesignKind) (found : Option DesignKind)
+pub net_fails : (design : Hierarchy) (names : List (List ℕ)) (rows : List DriverEdge) (n line : ℕ) (kind : DesignKind) (found : Option DesignKind)
     → names ≡ map net_name (flat_of design).nets → AreSourcesOf design rows → n < length names → found ≡ Some kind
     → ((name : List ℕ) → slice_get names n ≡ Some name → IsFirstKind (NumberHas names rows n name) found)
     → ((net : FlatNet) → slice_get (flat_of design).nets n ≡ Some net → line ≡ net_line net)
@@ -81,7 +81,7 @@ net_fails design names rows n line kind found named are low is says line_is befo
     (subst (IsFirstKind (NetHas (flat_of design) n net.0)) is (said_of_net design names rows n net.0 found named are net.1 says)) before
 
 -- one more net without a fault
-pub net_passes : (design : Hierarchy) (names : List (List ℕ)) (rows : List FeedRow) (n : ℕ) (found : Option DesignKind)
+pub net_passes : (design : Hierarchy) (names : List (List ℕ)) (rows : List DriverEdge) (n : ℕ) (found : Option DesignKind)
     → names ≡ map net_name (flat_of design).nets → AreSourcesOf design rows → n < length names → found ≡ None
     → ((name : List ℕ) → slice_get names n ≡ Some name → IsFirstKind (NumberHas names rows n name) found)
     → HaveNoneBefore FlatNet (NetHas (flat_of design)) (flat_of design).nets n

@@ -1,4 +1,4 @@
--- The number of a net bit: the first net of its module where it stands, its net in the module, and its place in the
+-- The number of a net bit: the first net of its module instance, its net in the module, and its place in the
 -- net.
 use Rattle.std.proofs.Common.{◌≡◌, ◌+◌, ◌-◌, ◌<◌, ◌≤◌, ℕ, zero, suc, min, Bool, true, false, cond, List, [], ◌∷◌, ◌++◌, map, length, take, slice_get, Option, Some, None, refl, sym, ◌∙◌, ap, subst, arith}
 use Rattle.std.proofs.lemmas.Bool.{cond-false, cond-true, le-leb, lt-leb}
@@ -9,18 +9,18 @@ use Rattle.std.proofs.lemmas.Option.{slice_get_within}
 use Rattle.std.proofs.lemmas.Slice.Eq.{bytes_eq-Decides}
 use Rattle.std.specs.List.{flat_map, sum_by}
 use Rattle.source_types.specs.declared.netlists.Wire.{Wire}
-use Rattle.sdc_model.specs.FlatNets.{NetBit, bit_of, net_bit, nets_in, wire_nets}
-use Rattle.sdc_model.specs.Instances.{Spot}
-use Rattle.sdc_model.specs.Ranges.{from_to, indices, span, width}
-use Rattle.sdc_model.specs.WellFormedDesign.{AreDistinct}
-use Rattle.sdc_model.specs.WellFormedNetlist.{IsNetBit, Selects}
-use Rattle.sdc_model.specs.Words.{same_text}
-use Rattle.sdc_model.proofs.ListFacts.{front_at}
-use Rattle.sdc_model.proofs.RangeFacts.{indices_length}
-use Rattle.flat_design.specs.Layout.{capped, nets_of}
+use Rattle.flat_model.specs.FlatNets.{NetBit, bit_of, net_bit, nets_in, wire_nets}
+use Rattle.flat_model.specs.Instances.{ModuleInstance}
+use Rattle.netlist_model.specs.Ranges.{from_to, indices, span, width}
+use Rattle.text_model.specs.Names.{AreDistinct}
+use Rattle.netlist_model.specs.WellFormedNetlist.{IsNetBit, Selects}
+use Rattle.text_model.specs.Words.{same_text}
+use Rattle.text_model.proofs.ListFacts.{front_at}
+use Rattle.netlist_model.proofs.RangeFacts.{indices_length}
+use Rattle.flat_design.specs.Elaboration.{capped, nets_of}
 use Rattle.flat_design.specs.Names.{next_place, place_of}
 use Rattle.flat_design.specs.NetNumbers.{IsNumber, net_names, net_starts}
-use Rattle.flat_design.proofs.BitsApart.{net_of}
+use Rattle.flat_design.proofs.DistinctBits.{net_of}
 use Rattle.flat_design.proofs.CountFacts.{nets_length, same_sum}
 use Rattle.flat_design.proofs.InstanceFaults.{found_at}
 use Rattle.flat_design.proofs.PlaceFacts.{place_in}
@@ -28,13 +28,13 @@ use Rattle.flat_design.proofs.RangeFacts.{down_at, map_at, up_at}
 
 -- ---- parts that are joined
 
-pub behind_at : {Y : Type 0} (front ys : List Y) (n : ℕ) (y : Y) → slice_get ys n ≡ Some y → slice_get (front ++ ys) (length front + n) ≡ Some y
-behind_at [] ys n y at = let e : 0 + n ≡ n = omega arith in ap (slice_get ys) e ∙ at
-behind_at (z ∷ front) ys n y at =
+pub after_at : {Y : Type 0} (front ys : List Y) (n : ℕ) (y : Y) → slice_get ys n ≡ Some y → slice_get (front ++ ys) (length front + n) ≡ Some y
+after_at [] ys n y at = let e : 0 + n ≡ n = omega arith in ap (slice_get ys) e ∙ at
+after_at (z ∷ front) ys n y at =
     let e : length (z ∷ front) + n ≡ suc (length front + n) = omega arith in
-    ap (slice_get (z ∷ (front ++ ys))) e ∙ behind_at front ys n y at
+    ap (slice_get (z ∷ (front ++ ys))) e ∙ after_at front ys n y at
 
--- a thing of a part stands behind all parts before it
+-- a thing of a part stands after all parts before it
 pub flat_at : {X Y : Type 0} (f : X → List Y) (xs : List X) (i j : ℕ) (x : X) (y : Y) → slice_get xs i ≡ Some x → slice_get (f x) j ≡ Some y
     → slice_get (flat_map f xs) (length (flat_map f (take i xs)) + j) ≡ Some y
 flat_at f [] i j x y at inner = let bad : None ≡ Some x = at in cc
@@ -47,7 +47,7 @@ flat_at f (z ∷ xs) (suc i) j x y at inner =
     let a = length-append (f z) (flat_map f (take i xs)) in
     let e : length (f z ++ flat_map f (take i xs)) + j ≡ length (f z) + (length (flat_map f (take i xs)) + j) = omega (arith, a) in
     ap (slice_get (f z ++ flat_map f xs)) e
-    ∙ behind_at (f z) (flat_map f xs) (length (flat_map f (take i xs)) + j) y (flat_at f xs i j x y at inner)
+    ∙ after_at (f z) (flat_map f xs) (length (flat_map f (take i xs)) + j) y (flat_at f xs i j x y at inner)
 
 -- ---- the first bits of the nets of a module
 
@@ -129,52 +129,52 @@ bits_le : (nets : List Wire) (k : ℕ) → bits_before (take k nets) ≤ bits_be
 bits_le nets k = sum_by-take-le (λ (net : Wire). width net.range) nets k
 
 -- a module has no more nets than the design
-pub module_nets_le : (spots : List Spot) (k : ℕ) (spot : Spot) → slice_get spots k ≡ Some spot → length (nets_in spot) ≤ nets_of spots
-module_nets_le [] k spot at = let bad : None ≡ Some spot = at in cc
-module_nets_le (s ∷ spots) zero spot at =
-    let e : Some s ≡ Some spot = at in
-    let same : s ≡ spot = cc in
-    let one = ap (λ (x : Spot). length (nets_in x)) same in
-    let a = length-append (nets_in s) (flat_map nets_in spots) in
+pub module_nets_le : (scopes : List ModuleInstance) (k : ℕ) (scope : ModuleInstance) → slice_get scopes k ≡ Some scope → length (nets_in scope) ≤ nets_of scopes
+module_nets_le [] k scope at = let bad : None ≡ Some scope = at in cc
+module_nets_le (s ∷ scopes) zero scope at =
+    let e : Some s ≡ Some scope = at in
+    let same : s ≡ scope = cc in
+    let one = ap (λ (x : ModuleInstance). length (nets_in x)) same in
+    let a = length-append (nets_in s) (flat_map nets_in scopes) in
     omega (arith, one, a)
-module_nets_le (s ∷ spots) (suc k) spot at =
-    let rest = module_nets_le spots k spot at in
-    let a = length-append (nets_in s) (flat_map nets_in spots) in
+module_nets_le (s ∷ scopes) (suc k) scope at =
+    let rest = module_nets_le scopes k scope at in
+    let a = length-append (nets_in s) (flat_map nets_in scopes) in
     omega (arith, rest, a)
 
-wire_length : (spot : Spot) (net : Wire) → length (wire_nets spot net) ≡ width net.range
-wire_length spot net = length-map (indices net.range) (net_of spot net) ∙ indices_length net.range
+wire_length : (scope : ModuleInstance) (net : Wire) → length (wire_nets scope net) ≡ width net.range
+wire_length scope net = length-map (indices net.range) (net_of scope net) ∙ indices_length net.range
 
-wires_before : (spot : Spot) (k : ℕ) → length (flat_map (wire_nets spot) (take k spot.body.nets)) ≡ bits_before (take k spot.body.nets)
-wires_before spot k =
-    length-flat_map (wire_nets spot) (take k spot.body.nets)
-    ∙ same_sum (λ (net : Wire). length (wire_nets spot net)) (λ (net : Wire). width net.range)
-    (λ net. wire_length spot net) (take k spot.body.nets)
+wires_before : (scope : ModuleInstance) (k : ℕ) → length (flat_map (wire_nets scope) (take k scope.body.nets)) ≡ bits_before (take k scope.body.nets)
+wires_before scope k =
+    length-flat_map (wire_nets scope) (take k scope.body.nets)
+    ∙ same_sum (λ (net : Wire). length (wire_nets scope net)) (λ (net : Wire). width net.range)
+    (λ net. wire_length scope net) (take k scope.body.nets)
 
 -- where a bit of a net stands among those of its module
-in_module : (spot : Spot) (w : ℕ) (net : Wire) (off : ℕ) (index : Option ℕ) → slice_get spot.body.nets w ≡ Some net → slice_get (indices net.range) off ≡ Some index
-    → slice_get (nets_in spot) (length (flat_map (wire_nets spot) (take w spot.body.nets)) + off) ≡ Some (net_of spot net index)
-in_module spot w net off index at found =
-    flat_at (wire_nets spot) spot.body.nets w off net (net_of spot net index) at (map_at (net_of spot net) (indices net.range) off index found)
+in_module : (scope : ModuleInstance) (w : ℕ) (net : Wire) (off : ℕ) (index : Option ℕ) → slice_get scope.body.nets w ≡ Some net → slice_get (indices net.range) off ≡ Some index
+    → slice_get (nets_in scope) (length (flat_map (wire_nets scope) (take w scope.body.nets)) + off) ≡ Some (net_of scope net index)
+in_module scope w net off index at found =
+    flat_at (wire_nets scope) scope.body.nets w off net (net_of scope net index) at (map_at (net_of scope net) (indices net.range) off index found)
 
-pub number_is : (spots : List Spot) (k : ℕ) (spot : Spot) (w : ℕ) (name : List ℕ) (index : Option ℕ) (first start off : ℕ) → slice_get spots k ≡ Some spot
-    → (is : IsNetBit spot.body.nets name index) → slice_get spot.body.nets w ≡ Some is.0 → nets_of spots ≤ 4000000
-    → first ≡ nets_of (take k spots) → slice_get (net_starts 0 spot.body.nets) w ≡ Some start → slice_get (indices is.0.range) off ≡ Some index
-    → IsNumber spots (first + start + off) (net_bit spot.path name index)
-number_is spots k spot w name index first start off at is net_at few first_is start_at found =
-    let bits = start_is 0 spot.body.nets w start (omega arith) start_at in
-    let before = wires_before spot w in
-    let low = bits_le spot.body.nets w in
-    let own = nets_length spot in
-    let fewer = module_nets_le spots k spot at in
-    let here : slice_get (flat_map nets_in spots) (length (flat_map nets_in (take k spots)) + (length (flat_map (wire_nets spot) (take w spot.body.nets)) + off))
-    ≡ Some (net_of spot is.0 index) =
-    flat_at nets_in spots k (length (flat_map (wire_nets spot) (take w spot.body.nets)) + off) spot (net_of spot is.0 index) at
-    (in_module spot w is.0 off index net_at found) in
-    let same : first + start + off ≡ length (flat_map nets_in (take k spots)) + (length (flat_map (wire_nets spot) (take w spot.body.nets)) + off) =
+pub number_is : (scopes : List ModuleInstance) (k : ℕ) (scope : ModuleInstance) (w : ℕ) (name : List ℕ) (index : Option ℕ) (first start off : ℕ) → slice_get scopes k ≡ Some scope
+    → (is : IsNetBit scope.body.nets name index) → slice_get scope.body.nets w ≡ Some is.0 → nets_of scopes ≤ 4000000
+    → first ≡ nets_of (take k scopes) → slice_get (net_starts 0 scope.body.nets) w ≡ Some start → slice_get (indices is.0.range) off ≡ Some index
+    → IsNumber scopes (first + start + off) (net_bit scope.path name index)
+number_is scopes k scope w name index first start off at is net_at few first_is start_at found =
+    let bits = start_is 0 scope.body.nets w start (omega arith) start_at in
+    let before = wires_before scope w in
+    let low = bits_le scope.body.nets w in
+    let own = nets_length scope in
+    let fewer = module_nets_le scopes k scope at in
+    let here : slice_get (flat_map nets_in scopes) (length (flat_map nets_in (take k scopes)) + (length (flat_map (wire_nets scope) (take w scope.body.nets)) + off))
+    ≡ Some (net_of scope is.0 index) =
+    flat_at nets_in scopes k (length (flat_map (wire_nets scope) (take w scope.body.nets)) + off) scope (net_of scope is.0 index) at
+    (in_module scope w is.0 off index net_at found) in
+    let same : first + start + off ≡ length (flat_map nets_in (take k scopes)) + (length (flat_map (wire_nets scope) (take w scope.body.nets)) + off) =
     omega (arith, bits, before, low, own, fewer, few, first_is) in
-    map_at bit_of (flat_map nets_in spots) (first + start + off) (net_of spot is.0 index) (ap (slice_get (flat_map nets_in spots)) same ∙ here)
-    ∙ ap (λ (n : List ℕ). Some (net_bit spot.path n index)) is.2
+    map_at bit_of (flat_map nets_in scopes) (first + start + off) (net_of scope is.0 index) (ap (slice_get (flat_map nets_in scopes)) same ∙ here)
+    ∙ ap (λ (n : List ℕ). Some (net_bit scope.path n index)) is.2
 
 -- ---- the place of an index
 
@@ -196,19 +196,19 @@ scalar_index (Some i) is = absurd is
 
 -- ---- that the number is one
 
-pub number_small : (spots : List Spot) (number : ℕ) (bit : NetBit) → nets_of spots ≤ 4000000 → IsNumber spots number bit → number < 4000000
-number_small spots number bit few is =
-    let low = slice_get_within (map bit_of (flat_map nets_in spots)) number bit is in
-    let count : length (map bit_of (flat_map nets_in spots)) ≡ nets_of spots = length-map (flat_map nets_in spots) bit_of in
+pub number_small : (scopes : List ModuleInstance) (number : ℕ) (bit : NetBit) → nets_of scopes ≤ 4000000 → IsNumber scopes number bit → number < 4000000
+number_small scopes number bit few is =
+    let low = slice_get_within (map bit_of (flat_map nets_in scopes)) number bit is in
+    let count : length (map bit_of (flat_map nets_in scopes)) ≡ nets_of scopes = length-map (flat_map nets_in scopes) bit_of in
     omega (arith, low, count, few)
 
 pub starts_length : (start : ℕ) (nets : List Wire) → length (net_starts start nets) ≡ length nets
 starts_length start [] = refl
 starts_length start (net ∷ nets) = let e = starts_length (capped start (width net.range)) nets in omega (arith, e)
 
-pub nets_before_le : (spots : List Spot) (k : ℕ) → nets_of (take k spots) ≤ nets_of spots
-nets_before_le spots k =
-    let a = length-flat_map nets_in (take k spots) in
-    let b = length-flat_map nets_in spots in
-    let c = sum_by-take-le (λ (spot : Spot). length (nets_in spot)) spots k in
+pub nets_before_le : (scopes : List ModuleInstance) (k : ℕ) → nets_of (take k scopes) ≤ nets_of scopes
+nets_before_le scopes k =
+    let a = length-flat_map nets_in (take k scopes) in
+    let b = length-flat_map nets_in scopes in
+    let c = sum_by-take-le (λ (scope : ModuleInstance). length (nets_in scope)) scopes k in
     omega (arith, a, b, c)

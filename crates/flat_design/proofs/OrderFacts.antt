@@ -1,8 +1,8 @@
 -- An order of modules has each module once, so that it is no longer than the modules are many.
 use Rattle.std.proofs.Common.{◌≡◌, ◌+◌, ◌<◌, ◌≤◌, ◌==◌, inl, inr, ℕ, zero, suc, Bool, true, false, List, [], ◌∷◌, ◌++◌, length, take, refl, ◌∙◌, ap, subst, arith}
 use Rattle.std.proofs.lemmas.Bool.{cases_eq, eq-eqb, or_right}
-use Rattle.sdc_model.proofs.ListFacts.{element_at}
-use Rattle.flat_design.specs.declared.walk.Step.{Step}
+use Rattle.text_model.proofs.ListFacts.{element_at}
+use Rattle.flat_design.specs.declared.elaborate.walk.Step.{Step}
 use Rattle.flat_design.specs.Walk.{AreOrdered, is_in}
 use Rattle.flat_design.proofs.PlaceFacts.{take_none, take_one}
 use Rattle.flat_design.proofs.WalkSteps.{in_push, in_push_other}
@@ -36,9 +36,9 @@ one_fewer xs m (suc n) low none =
           let old : one_unless (is_in xs n) ≡ 1 = ap one_unless lacks in
           let rest = kept_below xs m n (omega (arith, same)) in
           omega (arith, new, old, rest)
-      | inr apart ↦
-          let one : one_unless (is_in (xs ++ m ∷ []) n) ≡ one_unless (is_in xs n) = ap one_unless (in_push_other xs m n apart) in
-          let rest = one_fewer xs m n (omega (arith, low, apart)) none in
+      | inr distinct ↦
+          let one : one_unless (is_in (xs ++ m ∷ []) n) ≡ one_unless (is_in xs n) = ap one_unless (in_push_other xs m n distinct) in
+          let rest = one_fewer xs m n (omega (arith, low, distinct)) none in
           omega (arith, one, rest)
     ]
 

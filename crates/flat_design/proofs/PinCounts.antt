@@ -7,18 +7,18 @@ use Rattle.std.proofs.lemmas.List.Sums.{sum_by-take-le}
 use Rattle.std.proofs.lemmas.Slice.Zip.{length-zip}
 use Rattle.std.specs.List.{enumerate_from, flat_map}
 use Rattle.source_types.specs.declared.libraries.Library.{Library}
-use Rattle.source_types.specs.declared.library_cells.LibCell.{LibCell}
-use Rattle.source_types.specs.declared.library_cells.LibPin.{LibPin}
+use Rattle.pin_types.specs.declared.library_cells.LibCell.{LibCell}
+use Rattle.pin_types.specs.declared.library_cells.LibPin.{LibPin}
 use Rattle.source_types.specs.declared.netlists.Bit.{Bit}
 use Rattle.source_types.specs.declared.netlists.Link.{Link}
 use Rattle.source_types.specs.declared.netlists.Links.{Links}
 use Rattle.source_types.specs.declared.netlists.Links.TheVariants as links
 use Rattle.source_types.specs.declared.netlists.Module.{Module}
-use Rattle.sdc_model.specs.Connections.{Terminal, connected, named_bits, names_of, ordered_bits, pins_of}
-use Rattle.sdc_model.specs.FlatDesign.{cell_pin, cell_pins, flat, port_pins}
-use Rattle.sdc_model.specs.FlatNets.{connected_pins}
-use Rattle.sdc_model.specs.Instances.{PlacedCell, cells_of}
-use Rattle.flat_design.specs.Layout.{kind_pins, pins_in}
+use Rattle.flat_model.specs.Connections.{Terminal, connected, named_bits, names_of, ordered_bits, pins_of}
+use Rattle.flat_model.specs.FlatDesign.{cell_pin, cell_pins, flat, port_pins}
+use Rattle.flat_model.specs.FlatNets.{connected_pins}
+use Rattle.flat_model.specs.Instances.{PlacedCell, cells_of}
+use Rattle.flat_design.specs.Elaboration.{kind_pins, pins_in}
 
 ordered_length : (names : List (List ℕ)) (connections : List (List Bit)) → length (ordered_bits names connections) ≡ length names
 ordered_length [] connections = refl

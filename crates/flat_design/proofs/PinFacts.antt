@@ -4,16 +4,16 @@ use Rattle.std.proofs.lemmas.List.{append_assoc, append-nil, map-append}
 use Rattle.std.proofs.lemmas.Simd.{map-map}
 use Rattle.std.specs.List.{enumerate_from, flat_map, zip}
 use Rattle.source_types.specs.declared.libraries.Library.{Library}
-use Rattle.source_types.specs.declared.library_cells.LibPin.{LibPin}
+use Rattle.pin_types.specs.declared.library_cells.LibPin.{LibPin}
 use Rattle.source_types.specs.declared.netlists.Module.{Module}
 use Rattle.source_types.specs.declared.netlists.Port.{Port}
-use Rattle.sdc_model.specs.Connections.{connected, names_of, pins_of}
-use Rattle.sdc_model.specs.FlatDesign.{cell_pin, cell_pins, flat, port_pin, port_pins}
-use Rattle.sdc_model.specs.FlatFaults.{flat_pin_name}
-use Rattle.sdc_model.specs.FlatNets.{connected_pins}
-use Rattle.sdc_model.specs.Instances.{PlacedCell, cells_of}
-use Rattle.sdc_model.specs.Ranges.{indices}
-use Rattle.sdc_model.proofs.ListFacts.{flat_map_same}
+use Rattle.flat_model.specs.Connections.{connected, names_of, pins_of}
+use Rattle.flat_model.specs.FlatDesign.{cell_pin, cell_pins, flat, port_pin, port_pins}
+use Rattle.flat_model.specs.FlatFaults.{flat_pin_name}
+use Rattle.flat_model.specs.FlatNets.{connected_pins}
+use Rattle.flat_model.specs.Instances.{PlacedCell, cells_of}
+use Rattle.netlist_model.specs.Ranges.{indices}
+use Rattle.text_model.proofs.ListFacts.{flat_map_same}
 use Rattle.flat_design.specs.Hierarchy.{bit_names, cell_name, pin_names_in, port_names}
 use Rattle.flat_design.proofs.NameFacts.{map_flat}
 use Rattle.flat_design.proofs.PinCounts.{connected_length, pin_names_length}

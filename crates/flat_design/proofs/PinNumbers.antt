@@ -3,20 +3,20 @@ use Rattle.std.proofs.Common.{◌≡◌, ◌+◌, ◌<◌, ℕ, zero, suc, List,
 use Rattle.std.proofs.lemmas.List.{length-map}
 use Rattle.std.proofs.lemmas.Option.{slice_get_within}
 use Rattle.std.specs.List.{enumerate_from, flat_map}
-use Rattle.source_types.specs.declared.library_cells.LibPin.{LibPin}
+use Rattle.pin_types.specs.declared.library_cells.LibPin.{LibPin}
 use Rattle.source_types.specs.declared.netlists.Bit.{Bit}
-use Rattle.sdc_model.specs.Connections.{connected, names_of, pins_of}
-use Rattle.sdc_model.specs.FlatDesign.{FlatPin, cell_pin, cell_pins, port_pins}
-use Rattle.sdc_model.specs.FlatNets.{PinPlace, connected_pins, pin_of}
-use Rattle.sdc_model.specs.Instances.{PlacedCell, path_of}
-use Rattle.sdc_model.proofs.ListFacts.{element_at}
-use Rattle.flat_design.specs.declared.hierarchy.Hierarchy.{Hierarchy}
-use Rattle.flat_design.specs.declared.layout.CellRow.{CellRow}
-use Rattle.flat_design.specs.Feeds.{IsPinNumber}
+use Rattle.flat_model.specs.Connections.{connected, names_of, pins_of}
+use Rattle.flat_model.specs.FlatDesign.{FlatPin, cell_pin, cell_pins, port_pins}
+use Rattle.flat_model.specs.FlatNets.{PinPlace, connected_pins, pin_of}
+use Rattle.flat_model.specs.Instances.{PlacedCell, path_of}
+use Rattle.text_model.proofs.ListFacts.{element_at}
+use Rattle.flat_design.specs.declared.elaborate.hierarchy.Hierarchy.{Hierarchy}
+use Rattle.flat_design.specs.declared.elaborate.elaboration.CellRow.{CellRow}
+use Rattle.flat_design.specs.Drivers.{IsPinNumber}
 use Rattle.flat_design.specs.Hierarchy.{IsHierarchy, cells_in, pins_of_design}
-use Rattle.flat_design.specs.Layout.{pins_in}
-use Rattle.flat_design.proofs.AddedFeeds.{zip_get}
-use Rattle.flat_design.proofs.NumberFacts.{behind_at, flat_at}
+use Rattle.flat_design.specs.Elaboration.{pins_in}
+use Rattle.flat_design.proofs.AddedDrivers.{zip_get}
+use Rattle.flat_design.proofs.NumberFacts.{after_at, flat_at}
 use Rattle.flat_design.proofs.PinCounts.{cells_length, connected_length, pin_names_length, pins_length}
 use Rattle.flat_design.proofs.RangeFacts.{map_at}
 
@@ -49,9 +49,9 @@ connection_at cell at pin is =
     (here.0, zip_get (enumerate_from 0 cell.kind.pins) (connected names cell.placed.instance.links) at (0 + at, pin) here.0 (numbered_at 0 cell.kind.pins at pin is) here.1)
 
 pub pin_number : (design : Hierarchy) (n at : ℕ) (cell : PlacedCell) (row : CellRow) → IsHierarchy design → slice_get (cells_in design) n ≡ Some cell
-    → at < length cell.kind.pins → slice_get design.layout.cells n ≡ Some row → IsPinNumber design (row.first_pin + at) (pin_of (path_of cell.placed) at)
+    → at < length cell.kind.pins → slice_get design.elaboration.cells n ≡ Some row → IsPinNumber design (row.first_pin + at) (pin_of (path_of cell.placed) at)
 pin_number design n at cell row is cell_at low row_at =
-    let known = is.layout.cells n row row_at in
+    let known = is.elaboration.cells n row row_at in
     let pin = element_at cell.kind.pins at low in
     let own = connection_at cell at pin.0 pin.1 in
     let ports = port_pins design.top.now in
@@ -61,7 +61,7 @@ pin_number design n at cell row is cell_at low row_at =
     let among : slice_get (flat_map cell_pins (enumerate_from 0 cells)) (length (flat_map cell_pins (take n (enumerate_from 0 cells))) + at) ≡ Some one =
     flat_at cell_pins (enumerate_from 0 cells) n at (0 + n, cell) one (numbered_at 0 cells n cell cell_at) in_cell in
     let whole : slice_get (pins_of_design design) (length ports + (length (flat_map cell_pins (take n (enumerate_from 0 cells))) + at)) ≡ Some one =
-    behind_at ports (flat_map cell_pins (enumerate_from 0 cells)) (length (flat_map cell_pins (take n (enumerate_from 0 cells))) + at) one among in
+    after_at ports (flat_map cell_pins (enumerate_from 0 cells)) (length (flat_map cell_pins (take n (enumerate_from 0 cells))) + at) one among in
     let before : length (flat_map cell_pins (take n (enumerate_from 0 cells))) ≡ pins_in (take n cells) =
     ap (λ (xs : List (ℕ × PlacedCell)). length (flat_map cell_pins xs)) (numbered_take 0 n cells) ∙ cells_length 0 (take n cells) in
     let same : row.first_pin + at ≡ length ports + (length (flat_map cell_pins (take n (enumerate_from 0 cells))) + at) = omega (arith, before, known.first) in
@@ -75,6 +75,6 @@ pin_small design number place is at =
     let count : length (map (λ (pin : FlatPin). pin.place) (pins_of_design design)) ≡ length (pins_of_design design) =
     length-map (pins_of_design design) (λ (pin : FlatPin). pin.place) in
     let all = pins_length design.modules.now design.library.now design.top.now in
-    let own = is.layout.pins in
-    let few = is.layout.few_pins in
+    let own = is.elaboration.pins in
+    let few = is.elaboration.few_pins in
     omega (arith, low, count, all, own, few)

@@ -5,9 +5,9 @@ use Rattle.std.proofs.lemmas.List.Concat.{flat_map-append}
 use Rattle.std.proofs.lemmas.List.Elements.{filter_map-append}
 use Rattle.std.proofs.lemmas.Option.{get_or_from_slice_get, slice_get-get_or}
 use Rattle.std.specs.List.{All, Contains, cons_option, filter_map, flat_map}
-use Rattle.sdc_model.proofs.ListFacts.{element_at}
+use Rattle.text_model.proofs.ListFacts.{element_at}
 
--- behind others and in front of others
+-- after others and in front of others
 pub get_middle : {X : Type 0} (xs : List X) (y : X) (ys : List X) → slice_get (xs ++ y ∷ ys) (length xs) ≡ Some y
 get_middle [] y ys = refl
 get_middle (x ∷ xs) y ys = get_middle xs y ys
@@ -79,7 +79,7 @@ pub filter_skip : {X Y : Type 0} (h : X → Option Y) (xs : List X) (x : X) → 
 filter_skip h xs x is =
     filter_map-append h xs (x ∷ []) ∙ (ap (λ o. filter_map h xs ++ cons_option o []) is ∙ append-nil (filter_map h xs))
 
--- what is kept of one stands behind what is kept of those before it
+-- what is kept of one stands after what is kept of those before it
 pub kept_at : {X Y : Type 0} (h : X → Option Y) (xs : List X) (x : X) (rest all : List X) (y : Y) → xs ++ x ∷ rest ≡ all → h x ≡ Some y
     → slice_get (filter_map h all) (length (filter_map h xs)) ≡ Some y
 kept_at h xs x rest all y whole is =

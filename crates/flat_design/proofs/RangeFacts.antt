@@ -1,7 +1,7 @@
 -- The bits of a range by their places.
 use Rattle.std.proofs.Common.{◌≡◌, ◌+◌, ◌-◌, ◌<◌, ◌≤◌, ℕ, zero, suc, List, [], ◌∷◌, map, slice_get, Some, None, ◌∙◌, ap, subst, arith}
 use Rattle.std.proofs.lemmas.Bool.{cond-false, cond-true, le-leb, lt-leb}
-use Rattle.sdc_model.specs.Ranges.{falling, from_to, rising, span}
+use Rattle.netlist_model.specs.Ranges.{falling, from_to, rising, span}
 
 rising_at : (n count place : ℕ) → place < count → slice_get (rising n count) place ≡ Some (n + place)
 rising_at n zero place h = absurd (omega arith)

@@ -3,9 +3,9 @@ use Rattle.std.proofs.Common.{◌≡◌, ◌+◌, ◌<◌, ◌||◌, inl, inr, �
 use Rattle.std.proofs.lemmas.Bool.{cases_lt}
 use Rattle.std.proofs.Math.Bool.{not-not}
 use Rattle.std.specs.List.{list_any}
-use Rattle.sdc_model.specs.FlatFaults.{is_among}
-use Rattle.sdc_model.specs.Words.{same_text}
-use Rattle.sdc_model.proofs.ListFacts.{front_at}
+use Rattle.flat_model.specs.FlatFaults.{is_among}
+use Rattle.text_model.specs.Words.{same_text}
+use Rattle.text_model.proofs.ListFacts.{front_at}
 use Rattle.flat_design.specs.Fitting.{stands_first}
 use Rattle.flat_design.specs.Names.{place_of}
 use Rattle.flat_design.proofs.NamedFits.{first_in, same_swap}

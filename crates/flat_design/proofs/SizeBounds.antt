@@ -8,17 +8,17 @@ use Rattle.std.specs.List.{AllByRecursion, cons_option, filter_map, flat_map}
 use Rattle.source_types.specs.declared.fault_kinds.DesignKind.{DesignKind}
 use Rattle.source_types.specs.declared.fault_kinds.DesignKind.TheVariants as fault
 use Rattle.source_types.specs.declared.libraries.Library.{Library}
-use Rattle.source_types.specs.declared.library_cells.LibCell.{LibCell}
+use Rattle.pin_types.specs.declared.library_cells.LibCell.{LibCell}
 use Rattle.source_types.specs.declared.netlists.Instance.{Instance}
 use Rattle.source_types.specs.declared.netlists.Module.{Module}
-use Rattle.sdc_model.specs.Connections.{instance_fault}
-use Rattle.sdc_model.specs.FlatFaults.{HasNoFault, InstanceHas}
-use Rattle.sdc_model.specs.FlatNets.{nets_in}
-use Rattle.sdc_model.specs.Instances.{Placed, PlacedCell, Spot, below, cell_at, entered, spot_for, stands_in}
-use Rattle.flat_design.specs.declared.sizes.Size.{Size}
-use Rattle.flat_design.specs.declared.walk.Step.{Step}
-use Rattle.flat_design.specs.declared.walk.Step.TheVariants as step
-use Rattle.flat_design.specs.Layout.{kind_pins, net_count, nets_of, pins_in}
+use Rattle.flat_model.specs.Connections.{instance_fault}
+use Rattle.flat_model.specs.FlatFaults.{HasNoFault, InstanceHas}
+use Rattle.flat_model.specs.FlatNets.{nets_in}
+use Rattle.flat_model.specs.Instances.{Placed, PlacedCell, ModuleInstance, below, cell_at, entered, scope_for, stands_in}
+use Rattle.flat_design.specs.declared.elaborate.sizes.Size.{Size}
+use Rattle.flat_design.specs.declared.elaborate.walk.Step.{Step}
+use Rattle.flat_design.specs.declared.elaborate.walk.Step.TheVariants as step
+use Rattle.flat_design.specs.Elaboration.{kind_pins, net_count, nets_of, pins_in}
 use Rattle.flat_design.specs.Sizes.{inner_size, joined, module_size, no_size, pins_of_kind, step_size, with_steps}
 use Rattle.flat_design.specs.Steps.{all_steps, step_of}
 use Rattle.flat_design.specs.Walk.{IsOf, is_in, steps_of}
@@ -62,8 +62,8 @@ amount modules library things = record {
 }
 
 -- the nets of a module alone
-abbrev pub own_nets : Spot → Size
-own_nets spot = record { instances = 0; nets = length (nets_in spot); pins = 0 }
+abbrev pub own_nets : ModuleInstance → Size
+own_nets scope = record { instances = 0; nets = length (nets_in scope); pins = 0 }
 
 parts_joined : {X Y : Type 0} (f : X → List Y) (xs ys : List X) → length (flat_map f (xs ++ ys)) ≡ length (flat_map f xs) + length (flat_map f ys)
 parts_joined f xs ys = ap length (flat_map-append f xs ys) ∙ length-append (flat_map f xs) (flat_map f ys)
@@ -72,10 +72,10 @@ amounts_joined : (modules : List Module) (library : Library) (xs ys : List Place
     → IsUpTo (plus (amount modules library xs) (amount modules library ys)) (amount modules library (xs ++ ys))
 amounts_joined modules library xs ys =
     let count = length-append xs ys in
-    let spots = ap nets_of (filter_map-append (entered modules) xs ys) ∙ parts_joined nets_in (filter_map (entered modules) xs) (filter_map (entered modules) ys) in
+    let scopes = ap nets_of (filter_map-append (entered modules) xs ys) ∙ parts_joined nets_in (filter_map (entered modules) xs) (filter_map (entered modules) ys) in
     let cells = ap pins_in (filter_map-append (cell_at modules library) xs ys)
     ∙ parts_joined kind_pins (filter_map (cell_at modules library) xs) (filter_map (cell_at modules library) ys) in
-    record { instances = omega (arith, count); nets = omega (arith, spots); pins = omega (arith, cells) }
+    record { instances = omega (arith, count); nets = omega (arith, scopes); pins = omega (arith, cells) }
 
 -- ---- instances without a fault
 
@@ -100,8 +100,8 @@ faultless_back modules library (x ∷ xs) ys all = faultless_back modules librar
 
 -- a size of a module is no more than what stands in it and below it for so many levels
 abbrev pub IsCounted : List Module → Library → ℕ → ℕ → Size → Type 0
-IsCounted modules library levels m size = (spot : Spot) → slice_get modules m ≡ Some spot.body → AreFaultless modules library (below modules levels spot)
-    → IsUpTo size (plus (own_nets spot) (amount modules library (below modules levels spot)))
+IsCounted modules library levels m size = (scope : ModuleInstance) → slice_get modules m ≡ Some scope.body → AreFaultless modules library (below modules levels scope)
+    → IsUpTo size (plus (own_nets scope) (amount modules library (below modules levels scope)))
 
 cell_counted : (modules : List Module) (library : Library) (placed : Placed) (kind : ℕ) (cell : LibCell) → slice_get library.cells kind ≡ Some cell
     → cell_at modules library placed ≡ Some (cell_here placed cell)
@@ -115,21 +115,21 @@ cell_counted modules library placed kind cell at is things alone =
     let whole = length-append cell.pins [] in
     record { instances = omega (arith, count); nets = omega arith; pins = omega (arith, own, pins, whole) }
 
-inner_counted : (modules : List Module) (library : Library) (placed : Placed) (inner : Spot) (behind : List Placed) (size : Size) → entered modules placed ≡ Some inner
-    → cell_at modules library placed ≡ None → IsUpTo size (plus (own_nets inner) (amount modules library behind))
-    → (things : List Placed) → things ≡ placed ∷ behind → IsUpTo (inner_size size) (amount modules library things)
-inner_counted modules library placed inner behind size enters none known things is =
+inner_counted : (modules : List Module) (library : Library) (placed : Placed) (inner : ModuleInstance) (after : List Placed) (size : Size) → entered modules placed ≡ Some inner
+    → cell_at modules library placed ≡ None → IsUpTo size (plus (own_nets inner) (amount modules library after))
+    → (things : List Placed) → things ≡ placed ∷ after → IsUpTo (inner_size size) (amount modules library things)
+inner_counted modules library placed inner after size enters none known things is =
     let count = ap length is in
-    let spots : nets_of (filter_map (entered modules) things) ≡ length (nets_in inner ++ flat_map nets_in (filter_map (entered modules) behind)) =
+    let scopes : nets_of (filter_map (entered modules) things) ≡ length (nets_in inner ++ flat_map nets_in (filter_map (entered modules) after)) =
     ap (λ (xs : List Placed). nets_of (filter_map (entered modules) xs)) is
-    ∙ ap (λ (o : Option Spot). nets_of (cons_option o (filter_map (entered modules) behind))) enters in
-    let both = length-append (nets_in inner) (flat_map nets_in (filter_map (entered modules) behind)) in
-    let cells : pins_in (filter_map (cell_at modules library) things) ≡ pins_in (filter_map (cell_at modules library) behind) =
+    ∙ ap (λ (o : Option ModuleInstance). nets_of (cons_option o (filter_map (entered modules) after))) enters in
+    let both = length-append (nets_in inner) (flat_map nets_in (filter_map (entered modules) after)) in
+    let cells : pins_in (filter_map (cell_at modules library) things) ≡ pins_in (filter_map (cell_at modules library) after) =
     ap (λ (xs : List Placed). pins_in (filter_map (cell_at modules library) xs)) is
-    ∙ ap (λ (o : Option PlacedCell). pins_in (cons_option o (filter_map (cell_at modules library) behind))) none in
+    ∙ ap (λ (o : Option PlacedCell). pins_in (cons_option o (filter_map (cell_at modules library) after))) none in
     record {
       instances = omega (arith, count, known.instances);
-      nets = omega (arith, spots, both, known.nets);
+      nets = omega (arith, scopes, both, known.nets);
       pins = omega (arith, cells, known.pins);
     }
 
@@ -141,8 +141,8 @@ one_counted modules library levels sizes before placed (step.Cell kind) means is
     cell_counted modules library placed kind means.0 means.1 means.3 (listed modules levels placed) (listed_alone modules levels placed means.2)
 one_counted modules library levels sizes before placed (step.Enter e fits) means is known sound =
     let b : Module = means.0 in
-    let inner : Spot = spot_for placed b in
-    let free : stands_in b placed.spot ≡ false = false_from_ne_true (stands_in b placed.spot) (λ near. sound.0 fault.ModuleCycle (means.3 near)) in
+    let inner : ModuleInstance = scope_for placed b in
+    let free : stands_in b placed.scope ≡ false = false_from_ne_true (stands_in b placed.scope) (λ near. sound.0 fault.ModuleCycle (means.3 near)) in
     let enters : entered modules placed ≡ Some inner = means.4 free in
     let there : listed modules levels placed ≡ placed ∷ below modules levels inner = listed_entered modules levels placed inner enters in
     let all : AreFaultless modules library (placed ∷ below modules levels inner) = subst (AreFaultless modules library) there sound in
@@ -151,30 +151,30 @@ one_counted modules library levels sizes before placed (step.Enter e fits) means
 
 -- ---- the instances of a module
 
-rest_counted : (modules : List Module) (library : Library) (levels : ℕ) (sizes : List Size) (before : List ℕ) (spot : Spot)
+rest_counted : (modules : List Module) (library : Library) (levels : ℕ) (sizes : List Size) (before : List ℕ) (scope : ModuleInstance)
     → ((e : ℕ) → is_in before e ≡ true → IsCounted modules library levels e (get_or sizes e no_size))
     → (place : ℕ) (rest : List Instance) (size whole : Size) → IsUpTo size whole → AllByRecursion (IsOf before) (map (step_of modules library) rest)
-    → AreFaultless modules library (flat_map (listed modules levels) (placed_from spot place rest))
+    → AreFaultless modules library (flat_map (listed modules levels) (placed_from scope place rest))
     → IsUpTo (with_steps library sizes size (map (step_of modules library) rest))
-    (plus whole (amount modules library (flat_map (listed modules levels) (placed_from spot place rest))))
-rest_counted modules library levels sizes before spot known place [] size whole so_far of sound = record {
+    (plus whole (amount modules library (flat_map (listed modules levels) (placed_from scope place rest))))
+rest_counted modules library levels sizes before scope known place [] size whole so_far of sound = record {
   instances = omega (arith, so_far.instances);
   nets = omega (arith, so_far.nets);
   pins = omega (arith, so_far.pins);
 }
-rest_counted modules library levels sizes before spot known place (one ∷ rest) size whole so_far of sound =
-    let placed : Placed = placed_at spot place one in
+rest_counted modules library levels sizes before scope known place (one ∷ rest) size whole so_far of sound =
+    let placed : Placed = placed_at scope place one in
     let here : List Placed = listed modules levels placed in
-    let behind : List Placed = flat_map (listed modules levels) (placed_from spot (place + 1) rest) in
+    let after : List Placed = flat_map (listed modules levels) (placed_from scope (place + 1) rest) in
     let own : Size = step_size library sizes (step_of modules library one) in
     let first : IsUpTo own (amount modules library here) =
     one_counted modules library levels sizes before placed (step_of modules library one) (step_means modules library placed) of.0 known
-    (faultless_front modules library here behind sound) in
+    (faultless_front modules library here after sound) in
     let more : IsUpTo (joined size own) (plus whole (amount modules library here)) = both_up_to size own whole (amount modules library here) so_far first in
-    let all = rest_counted modules library levels sizes before spot known (place + 1) rest (joined size own) (plus whole (amount modules library here)) more of.1
-    (faultless_back modules library here behind sound) in
-    regrouped (with_steps library sizes (joined size own) (map (step_of modules library) rest)) whole (amount modules library here) (amount modules library behind)
-    (amount modules library (here ++ behind)) all (amounts_joined modules library here behind)
+    let all = rest_counted modules library levels sizes before scope known (place + 1) rest (joined size own) (plus whole (amount modules library here)) more of.1
+    (faultless_back modules library here after sound) in
+    regrouped (with_steps library sizes (joined size own) (map (step_of modules library) rest)) whole (amount modules library here) (amount modules library after)
+    (amount modules library (here ++ after)) all (amounts_joined modules library here after)
 
 -- the size that a module has by those of the modules that it instantiates
 pub module_counted : (modules : List Module) (library : Library) (levels : ℕ) (sizes : List Size) (before : List ℕ) (m nets : ℕ)
@@ -182,12 +182,12 @@ pub module_counted : (modules : List Module) (library : Library) (levels : ℕ) 
     → AllByRecursion (IsOf before) (steps_of (all_steps modules library) m)
     → ((body : Module) → slice_get modules m ≡ Some body → nets ≡ net_count body.nets)
     → IsCounted modules library (suc levels) m (module_size library sizes nets (steps_of (all_steps modules library) m))
-module_counted modules library levels sizes before m nets known of nets_are spot at sound =
-    let steps : steps_of (all_steps modules library) m ≡ map (step_of modules library) spot.body.instances = steps_at modules library m spot.body at in
-    let count = nets_are spot.body at in
-    let own = nets_length spot in
-    let begun : IsUpTo (record { instances = 0; nets = nets; pins = 0 }) (own_nets spot) =
+module_counted modules library levels sizes before m nets known of nets_are scope at sound =
+    let steps : steps_of (all_steps modules library) m ≡ map (step_of modules library) scope.body.instances = steps_at modules library m scope.body at in
+    let count = nets_are scope.body at in
+    let own = nets_length scope in
+    let begun : IsUpTo (record { instances = 0; nets = nets; pins = 0 }) (own_nets scope) =
     record { instances = omega arith; nets = omega (arith, count, own); pins = omega arith } in
-    subst (λ (all : List Step). IsUpTo (module_size library sizes nets all) (plus (own_nets spot) (amount modules library (below modules (suc levels) spot)))) (sym steps)
-    (rest_counted modules library levels sizes before spot known 0 spot.body.instances (record { instances = 0; nets = nets; pins = 0 }) (own_nets spot) begun
+    subst (λ (all : List Step). IsUpTo (module_size library sizes nets all) (plus (own_nets scope) (amount modules library (below modules (suc levels) scope)))) (sym steps)
+    (rest_counted modules library levels sizes before scope known 0 scope.body.instances (record { instances = 0; nets = nets; pins = 0 }) (own_nets scope) begun
     (subst (AllByRecursion (IsOf before)) steps of) sound)

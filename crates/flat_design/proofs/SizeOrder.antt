@@ -7,20 +7,20 @@ use Rattle.std.proofs.lemmas.Option.{get_or_from_slice_get, slice_get_within}
 use Rattle.std.specs.List.{All, filter_map, flat_map}
 use Rattle.source_types.specs.declared.fault_kinds.DesignKind.{DesignKind}
 use Rattle.source_types.specs.declared.libraries.Library.{Library}
-use Rattle.source_types.specs.declared.library_cells.LibCell.{LibCell}
+use Rattle.pin_types.specs.declared.library_cells.LibCell.{LibCell}
 use Rattle.source_types.specs.declared.netlists.Instance.{Instance}
 use Rattle.source_types.specs.declared.netlists.Links.{Links}
 use Rattle.source_types.specs.declared.netlists.Module.{Module}
-use Rattle.sdc_model.specs.Connections.{cell_fault}
-use Rattle.sdc_model.specs.FlatDesign.{flat}
-use Rattle.sdc_model.specs.FlatFaults as faults
-use Rattle.sdc_model.specs.FlatNets.{nets_in}
-use Rattle.sdc_model.specs.Flattening.{NoneOfInstances}
-use Rattle.sdc_model.specs.Instances.{entered, instances_of, top_spot}
-use Rattle.sdc_model.proofs.ListFacts.{element_at}
-use Rattle.flat_design.specs.declared.sizes.Size.{Size}
-use Rattle.flat_design.specs.declared.walk.Step.{Step}
-use Rattle.flat_design.specs.Layout.{capped, net_count, port_count}
+use Rattle.flat_model.specs.Connections.{cell_fault}
+use Rattle.flat_model.specs.FlatDesign.{flat}
+use Rattle.flat_model.specs.FlatFaults as faults
+use Rattle.flat_model.specs.FlatNets.{nets_in}
+use Rattle.flat_model.specs.Flattening.{NoneOfInstances}
+use Rattle.flat_model.specs.Instances.{entered, instances_of, top_scope}
+use Rattle.text_model.proofs.ListFacts.{element_at}
+use Rattle.flat_design.specs.declared.elaborate.sizes.Size.{Size}
+use Rattle.flat_design.specs.declared.elaborate.walk.Step.{Step}
+use Rattle.flat_design.specs.Elaboration.{capped, net_count, port_count}
 use Rattle.flat_design.specs.Names.{place_of}
 use Rattle.flat_design.specs.Sizes.{IsKind, is_beyond, is_counted_beyond, module_size, no_size, sizes_along, sizes_in, with_size}
 use Rattle.flat_design.specs.Steps.{all_steps, cell_names, cell_step, fault_step, module_names, named_step, step_of_cell, steps_in}
@@ -48,8 +48,8 @@ drop_first [] (suc n) x rest is = let bad : [] ≡ x ∷ rest = is in cc
 drop_first (y ∷ ys) zero x rest is =
     let whole : y ∷ ys ≡ x ∷ rest = is in
     let first : y ≡ x = cc in
-    let behind : ys ≡ rest = cc in
-    (ap (λ (z : ℕ). Some z) first, behind)
+    let after : ys ≡ rest = cc in
+    (ap (λ (z : ℕ). Some z) first, after)
 drop_first (y ∷ ys) (suc n) x rest is = drop_first ys n x rest is
 
 drop_end : (xs : List ℕ) (n : ℕ) → drop n xs ≡ [] → length xs ≤ n
@@ -129,8 +129,8 @@ one_more modules library counts sizes order n m ordered same count so_far at pla
           let new : get_or (set sizes m size) other no_size ≡ size = ap (λ (k : ℕ). get_or (set sizes m size) k no_size) one ∙ get_or-set_same sizes m size no_size within in
           subst (IsCounted modules library levels other) (sym new) (subst (λ (k : ℕ). IsCounted modules library levels k size) (sym one)
           (last_counted modules library counts sizes order n m ordered same so_far at levels (omega (arith, here, enough))))
-      | inr apart ↦
-          let before : place < n = omega (arith, apart, low) in
+      | inr distinct ↦
+          let before : place < n = omega (arith, distinct, low) in
           let different : other ≡ m → ⊥ = λ e. differ (take n order) other m (in_taken order place n other there before) (ordered n m at).1 (sym e) in
           subst (IsCounted modules library levels other) (sym (get_or-set_other sizes m other size no_size different))
           (so_far place other there before levels enough)
@@ -158,7 +158,7 @@ top_counted : (modules : List Module) (library : Library) (counts order : List �
     → AreOrdered (all_steps modules library) order → is_in order top ≡ true → counts ≡ map (λ (one : Module). net_count one.nets) modules
     → slice_get modules top ≡ Some body → NoneOfInstances modules library (flat modules library body)
     → IsUpTo (get_or (sizes_in library (all_steps modules library) counts order) top no_size)
-    (plus (own_nets (top_spot body)) (amount modules library (instances_of modules body)))
+    (plus (own_nets (top_scope body)) (amount modules library (instances_of modules body)))
 top_counted modules library counts order top body ordered reached same at sound =
     let all = all_steps modules library in
     let there = in_place order top reached in
@@ -167,17 +167,17 @@ top_counted modules library counts order top body ordered reached same at sound 
     let count : length all ≡ length modules = length-map modules (steps_in modules library) in
     all_counted modules library counts order ordered same order 0 (replicate (length all) no_size) refl (length-replicate (length all) no_size)
     (λ place m found low. absurd (omega (arith, low)))
-    there.0 top there.1 within (length modules) (omega (arith, within, few, count)) (top_spot body) at
+    there.0 top there.1 within (length modules) (omega (arith, within, few, count)) (top_scope body) at
     (each_faultless modules library (instances_of modules body) sound)
 
 beyond : (modules : List Module) (library : Library) (body : Module) (ports : ℕ) (size : Size) → ports ≡ port_count body.ports
-    → IsUpTo size (plus (own_nets (top_spot body)) (amount modules library (instances_of modules body))) → is_beyond ports size ≡ true
+    → IsUpTo size (plus (own_nets (top_scope body)) (amount modules library (instances_of modules body))) → is_beyond ports size ≡ true
     → faults.is_too_large (flat modules library body) ≡ true
 beyond modules library body ports size ports_are known is =
     let f = flat modules library body in
     let all = ports_length body in
     let pins = pins_length modules library body in
-    let nets = length-append (nets_in (top_spot body)) (flat_map nets_in (filter_map (entered modules) (instances_of modules body))) in
+    let nets = length-append (nets_in (top_scope body)) (flat_map nets_in (filter_map (entered modules) (instances_of modules body))) in
     elim (or_cases (nat_lt 1000000 (capped ports size.pins) || nat_lt 4000000 size.nets) (nat_lt 4000000 size.instances) is) [
       | inl two ↦ elim (or_cases (nat_lt 1000000 (capped ports size.pins)) (nat_lt 4000000 size.nets) two) [
         | inl many ↦ or_left (nat_lt 1000000 (length f.pins)) _ (lt-ltb 1000000 (length f.pins)

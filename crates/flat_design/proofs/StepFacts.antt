@@ -6,14 +6,14 @@ use Rattle.std.proofs.lemmas.Option.{slice_get_read, slice_get_within}
 use Rattle.std.specs.List.{All}
 use Rattle.source_types.specs.declared.fault_kinds.DesignKind.TheVariants as fault
 use Rattle.source_types.specs.declared.libraries.Library.{Library}
-use Rattle.source_types.specs.declared.library_cells.LibCell.{LibCell}
+use Rattle.pin_types.specs.declared.library_cells.LibCell.{LibCell}
 use Rattle.source_types.specs.declared.netlists.Instance.{Instance}
 use Rattle.source_types.specs.declared.netlists.Links.{Links}
 use Rattle.source_types.specs.declared.netlists.Module.{Module}
-use Rattle.sdc_model.specs.Connections.{links_fit, pins_of}
-use Rattle.sdc_model.specs.Instances.{cell_named, module_named}
-use Rattle.flat_design.specs.declared.walk.Step.{Step}
-use Rattle.flat_design.specs.declared.walk.Step.TheVariants as step
+use Rattle.flat_model.specs.Connections.{links_fit, pins_of}
+use Rattle.flat_model.specs.Instances.{cell_named, module_named}
+use Rattle.flat_design.specs.declared.elaborate.walk.Step.{Step}
+use Rattle.flat_design.specs.declared.elaborate.walk.Step.TheVariants as step
 use Rattle.flat_design.specs.Names.{place_of}
 use Rattle.flat_design.specs.Steps.{all_steps, cell_names, cell_place, cell_step, fault_step, fits_module, fits_step, module_names, named_step, step_of, step_of_cell, steps_in}
 use Rattle.flat_design.proofs.InstanceFaults.{found_at}

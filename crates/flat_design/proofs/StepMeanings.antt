@@ -4,12 +4,12 @@ use Rattle.std.proofs.lemmas.Bool.{cond-false, cond-true}
 use Rattle.source_types.specs.declared.fault_kinds.DesignKind.{DesignKind}
 use Rattle.source_types.specs.declared.fault_kinds.DesignKind.TheVariants as fault
 use Rattle.source_types.specs.declared.libraries.Library.{Library}
-use Rattle.source_types.specs.declared.library_cells.LibCell.{LibCell}
+use Rattle.pin_types.specs.declared.library_cells.LibCell.{LibCell}
 use Rattle.source_types.specs.declared.netlists.Module.{Module}
-use Rattle.sdc_model.specs.Connections.{cell_fault, instance_fault}
-use Rattle.sdc_model.specs.Instances.{Placed, PlacedCell, cell_at, cell_named, entered, meant, module_named, spot_for, stands_in}
-use Rattle.flat_design.specs.declared.walk.Step.{Step}
-use Rattle.flat_design.specs.declared.walk.Step.TheVariants as step
+use Rattle.flat_model.specs.Connections.{cell_fault, instance_fault}
+use Rattle.flat_model.specs.Instances.{Placed, PlacedCell, cell_at, cell_named, entered, meant, module_named, scope_for, stands_in}
+use Rattle.flat_design.specs.declared.elaborate.walk.Step.{Step}
+use Rattle.flat_design.specs.declared.elaborate.walk.Step.TheVariants as step
 use Rattle.flat_design.specs.Names.{place_of}
 use Rattle.flat_design.specs.Steps.{cell_names, cell_step, fault_step, fits_module, module_names, named_step, step_of, step_of_cell}
 use Rattle.flat_design.proofs.InstanceFaults.{found_at, instance_none, instance_some}
@@ -27,13 +27,13 @@ Means modules library placed (step.Cell kind) =
     × (cell_at modules library placed ≡ Some (cell_here placed cell))
 Means modules library placed (step.Enter p fits) =
     (b : Module) × (slice_get modules p ≡ Some b) × (cell_at modules library placed ≡ None)
-    × (stands_in b placed.spot ≡ true → instance_fault modules library placed ≡ Some fault.ModuleCycle)
-    × (stands_in b placed.spot ≡ false → entered modules placed ≡ Some (spot_for placed b))
+    × (stands_in b placed.scope ≡ true → instance_fault modules library placed ≡ Some fault.ModuleCycle)
+    × (stands_in b placed.scope ≡ false → entered modules placed ≡ Some (scope_for placed b))
 
 -- ---- a module
 
 pub entered_is : (modules : List Module) (placed : Placed) (b : Module) → module_named modules placed.instance.kind ≡ Some b
-    → entered modules placed ≡ cond (stands_in b placed.spot) None (Some (spot_for placed b))
+    → entered modules placed ≡ cond (stands_in b placed.scope) None (Some (scope_for placed b))
 entered_is modules placed b named = rw (named, entered) refl
 
 no_cell : (modules : List Module) (library : Library) (placed : Placed) (b : Module) → module_named modules placed.instance.kind ≡ Some b
@@ -46,8 +46,8 @@ module_means modules library placed p fits b at named = (
   b,
   at,
   no_cell modules library placed b named,
-  λ near. instance_some modules library placed b named ∙ cond-true (stands_in b placed.spot) _ _ near,
-  λ far. entered_is modules placed b named ∙ cond-false (stands_in b placed.spot) _ _ far,
+  λ near. instance_some modules library placed b named ∙ cond-true (stands_in b placed.scope) _ _ near,
+  λ far. entered_is modules placed b named ∙ cond-false (stands_in b placed.scope) _ _ far,
 )
 
 -- ---- a cell, or nothing

@@ -8,7 +8,7 @@ use Rattle.indexmap.specs.IndexMap.{IndexMap, UpdatesBy, get_by}
 use Rattle.std.specs.List.{find}
 use Rattle.std.specs.Option.{is_some}
 use Rattle.std.specs.Str.{bytes_eq}
-use Rattle.sdc_model.specs.Words.{same_text}
+use Rattle.text_model.specs.Words.{same_text}
 use Rattle.flat_design.specs.Names.{IsOneMore, IsTable, next_place, or_place, place_of}
 use denote.Ref.{Bor}
 

@@ -14,7 +14,7 @@ taken_front : {X A : Type 0} (s : IntoIter X A) (xs : List X) (t : IntoIter X A)
 taken_front s [] t y = ap into_iter_items y
 taken_front s (x ∷ xs) t y = y.1.0 ∙ ap (λ ys. x ∷ ys) (taken_front y.0 xs t y.2)
 
--- what is taken next stands behind what was taken
+-- what is taken next stands after what was taken
 pub taken_at : {X A : Type 0} (s t u : IntoIter X A) (xs all : List X) (x : X) → into_iter_items s ≡ all → Yields into_iter_steps s xs t → into_iter_steps t (Some x) u
     → slice_get all (length xs) ≡ Some x
 taken_at s t u xs all x same taken step =

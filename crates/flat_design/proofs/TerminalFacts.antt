@@ -1,16 +1,16 @@
--- Tables of the terminals of modules and library cells, one behind the other and by place.
+-- Tables of the terminals of modules and library cells, one after the other and by place.
 use Rattle.std.proofs.Common.{◌≡◌, ◌+◌, ◌<◌, ℕ, zero, suc, List, [], ◌∷◌, ◌++◌, map, length, take, get_or, replicate, slice_get, Some, None, refl, sym, ◌∙◌, ap, subst}
 use Rattle.std.proofs.lemmas.List.{take_more}
 use Rattle.std.proofs.lemmas.Option.{get_or_from_slice_get}
 use Rattle.std.proofs.lemmas.Slice.Zip.{all_zipped_more}
 use Rattle.std.specs.List.{AllZip}
-use Rattle.source_types.specs.declared.library_cells.LibCell.{LibCell}
-use Rattle.source_types.specs.declared.library_cells.LibPin.{LibPin}
+use Rattle.pin_types.specs.declared.library_cells.LibCell.{LibCell}
+use Rattle.pin_types.specs.declared.library_cells.LibPin.{LibPin}
 use Rattle.source_types.specs.declared.netlists.Module.{Module}
 use Rattle.source_types.specs.declared.netlists.Port.{Port}
-use Rattle.sdc_model.specs.Connections.{names_of, pins_of, ports_of}
-use Rattle.sdc_model.specs.Ranges.{width}
-use Rattle.flat_design.specs.declared.terminals.Terminals.{Terminals}
+use Rattle.flat_model.specs.Connections.{names_of, pins_of, ports_of}
+use Rattle.netlist_model.specs.Ranges.{width}
+use Rattle.flat_design.specs.declared.elaborate.terminals.Terminals.{Terminals}
 use Rattle.flat_design.specs.Fitting.{widths_of}
 use Rattle.flat_design.specs.Names.{IsTable}
 use Rattle.flat_design.specs.Tables.{IsTerminals}

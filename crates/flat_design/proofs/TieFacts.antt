@@ -5,12 +5,12 @@ use Rattle.std.proofs.lemmas.Option.{same_Some, slice_get_within}
 use Rattle.std.specs.List.{Contains}
 use Rattle.source_types.specs.declared.netlists.Range.{Range}
 use Rattle.source_types.specs.declared.netlists.Wire.{Wire}
-use Rattle.sdc_model.specs.FlatNets.{tie_feeds}
-use Rattle.sdc_model.specs.Ranges.{from_to, indices, span}
-use Rattle.sdc_model.specs.WellFormedNetlist.{IsBetween, IsNetBit, Selects}
-use Rattle.sdc_model.proofs.RangeFacts.{span_length}
-use Rattle.flat_design.specs.Feeds.{tied_bit}
-use Rattle.flat_design.proofs.ApartFacts.{get_map}
+use Rattle.flat_model.specs.FlatNets.{tie_drivers}
+use Rattle.netlist_model.specs.Ranges.{from_to, indices, span}
+use Rattle.netlist_model.specs.WellFormedNetlist.{IsBetween, IsNetBit, Selects}
+use Rattle.netlist_model.proofs.RangeFacts.{span_length}
+use Rattle.flat_design.specs.Drivers.{tied_bit}
+use Rattle.flat_design.proofs.DistinctFacts.{get_map}
 use Rattle.flat_design.proofs.RangeFacts.{down_at, down_within, up_at, up_within}
 
 between_at : (range : Range) (place i : ℕ) → slice_get (from_to range.left range.right) place ≡ Some i → IsBetween range i
@@ -43,8 +43,8 @@ pub bit_there : (nets : List Wire) (wire : Wire) (place : ℕ) (index : Option �
     → IsNetBit nets wire.name index
 bit_there nets wire place index has at = (wire, has, refl, selects_at wire.range place index at)
 
-pub tied_none : (path : List ℕ) (wire : Wire) → wire.tie ≡ None → tie_feeds path wire ≡ []
-tied_none path wire none = rw (tie_feeds, none) refl
+pub tied_none : (path : List ℕ) (wire : Wire) → wire.tie ≡ None → tie_drivers path wire ≡ []
+tied_none path wire none = rw (tie_drivers, none) refl
 
-pub tied_some : (path : List ℕ) (wire : Wire) (value : Bool) → wire.tie ≡ Some value → tie_feeds path wire ≡ map (tied_bit path wire value) (indices wire.range)
-tied_some path wire value some = rw (tie_feeds, some) refl
+pub tied_some : (path : List ℕ) (wire : Wire) (value : Bool) → wire.tie ≡ Some value → tie_drivers path wire ≡ map (tied_bit path wire value) (indices wire.range)
+tied_some path wire value some = rw (tie_drivers, some) refl

@@ -2,18 +2,18 @@
 use Rattle.std.proofs.Common.{◌≡◌, ◌+◌, ◌≤◌, ℕ, List, [], length, map, take, slice_get, Option, Some, refl, ◌∙◌, ap, arith}
 use Rattle.std.proofs.lemmas.List.{length-map}
 use Rattle.std.specs.List.{flat_map}
-use Rattle.source_types.specs.declared.library_cells.Direction.TheVariants as direction
+use Rattle.pin_types.specs.declared.library_cells.Direction.TheVariants as direction
 use Rattle.source_types.specs.declared.netlists.Port.{Port}
 use Rattle.source_types.specs.declared.netlists.Wire.{Wire}
-use Rattle.sdc_model.specs.FlatDesign.{FlatPin, port_pin, port_pins}
-use Rattle.sdc_model.specs.FlatNets.{port_bit, top_port_feeds}
-use Rattle.sdc_model.specs.Instances.{top_spot}
-use Rattle.sdc_model.specs.Ranges.{indices, width}
-use Rattle.sdc_model.specs.WellFormedNetlist.{IsNetOfPort, IsWellFormedModule}
-use Rattle.sdc_model.proofs.ListFacts.{contains_at, front_at}
-use Rattle.sdc_model.proofs.RangeFacts.{indices_length}
-use Rattle.flat_design.specs.declared.hierarchy.Hierarchy.{Hierarchy}
-use Rattle.flat_design.specs.Feeds.{HasPort, IsPinNumber, input_feed}
+use Rattle.flat_model.specs.FlatDesign.{FlatPin, port_pin, port_pins}
+use Rattle.flat_model.specs.FlatNets.{port_bit, top_port_drivers}
+use Rattle.flat_model.specs.Instances.{top_scope}
+use Rattle.netlist_model.specs.Ranges.{indices, width}
+use Rattle.netlist_model.specs.WellFormedNetlist.{IsNetOfPort, IsWellFormedModule}
+use Rattle.text_model.proofs.ListFacts.{contains_at, front_at}
+use Rattle.netlist_model.proofs.RangeFacts.{indices_length}
+use Rattle.flat_design.specs.declared.elaborate.hierarchy.Hierarchy.{Hierarchy}
+use Rattle.flat_design.specs.Drivers.{HasPort, IsPinNumber, input_drive}
 use Rattle.flat_design.specs.Hierarchy.{IsHierarchy, pins_of_design}
 use Rattle.flat_design.proofs.NumberFacts.{flat_at}
 use Rattle.flat_design.proofs.PinCounts.{parts_le}
@@ -28,12 +28,12 @@ pins_of_port port = map (port_pin port) (indices port.range)
 -- a port of the top is one of its nets
 pub top_port : (design : Hierarchy) (place : ℕ) (port : Port) → IsHierarchy design → slice_get design.top.now.ports place ≡ Some port → HasPort design 0 port
 top_port design place port is at =
-    let formed : IsWellFormedModule design.top.now = is.formed 0 (top_spot design.top.now) refl in
+    let formed : IsWellFormedModule design.top.now = is.formed 0 (top_scope design.top.now) refl in
     let own = formed.ports in
     let found = zip_at IsNetOfPort design.top.now.ports own.0 own.3 place port at in
     let net_at : slice_get design.top.now.nets place ≡ Some found.0 =
     ap (λ (nets : List Wire). slice_get nets place) own.2 ∙ front_at own.0 own.1 place found.0 found.1 in
-    (top_spot design.top.now, refl, (found.0, contains_at design.top.now.nets place found.0 net_at, found.2.0, found.2.1))
+    (top_scope design.top.now, refl, (found.0, contains_at design.top.now.nets place found.0 net_at, found.2.0, found.2.1))
 
 -- the number of a port bit
 pub top_number : (design : Hierarchy) (n first : ℕ) (port : Port) → slice_get design.top.now.ports n ≡ Some port
@@ -59,15 +59,15 @@ pins_passed ports n first w port at same so_far =
 pub pins_passed_few : (design : Hierarchy) (n : ℕ) → IsHierarchy design → length (flat_map pins_of_port (take n design.top.now.ports)) ≤ 1000000
 pins_passed_few design n is =
     let part = parts_le pins_of_port design.top.now.ports n in
-    let own = is.layout.pins in
-    let few = is.layout.few_pins in
+    let own = is.elaboration.pins in
+    let few = is.elaboration.few_pins in
     omega (arith, part, own, few)
 
-pub fed_input : (port : Port) → port.direction ≡ direction.Input → top_port_feeds port ≡ map (input_feed port) (indices port.range)
-fed_input port is = rw (top_port_feeds, is) refl
+pub input_drives : (port : Port) → port.direction ≡ direction.Input → top_port_drivers port ≡ map (input_drive port) (indices port.range)
+input_drives port is = rw (top_port_drivers, is) refl
 
-pub fed_output : (port : Port) → port.direction ≡ direction.Output → top_port_feeds port ≡ []
-fed_output port is = rw (top_port_feeds, is) refl
+pub output_drives : (port : Port) → port.direction ≡ direction.Output → top_port_drivers port ≡ []
+output_drives port is = rw (top_port_drivers, is) refl
 
-pub fed_other : (port : Port) → port.direction ≡ direction.Other → top_port_feeds port ≡ []
-fed_other port is = rw (top_port_feeds, is) refl
+pub driven_other : (port : Port) → port.direction ≡ direction.Other → top_port_drivers port ≡ []
+driven_other port is = rw (top_port_drivers, is) refl

@@ -1,4 +1,4 @@
--- What the turns of the walk leave: a module is closed; how the walk begins, and what it has at its end.
+-- What the steps of the walk leave: a module is closed; how the walk begins, and what it has at its end.
 use Rattle.std.proofs.Common.{◌≡◌, ◌+◌, ◌-◌, ◌<◌, ◌||◌, ◌==◌, inl, inr, ℕ, zero, suc, true, false, List, [], ◌∷◌, ◌++◌, length, take, drop, set, replicate, slice_get, Option, Some, None, refl, sym, ◌∙◌, ap, subst, arith}
 use Rattle.std.proofs.lemmas.Bool.{or_cases, or_left, or_parts, or_right, eqb-false, eqb-true, eq-eqb, cases_eq, cond-false}
 use Rattle.std.proofs.lemmas.List.{append-nil, length-replicate, length-set, take-append-le, take_at}
@@ -6,19 +6,19 @@ use Rattle.std.proofs.lemmas.Option.{slice_get_within}
 use Rattle.std.proofs.Math.Bool.{or-false}
 use Rattle.std.specs.List.{AllByRecursion}
 use Rattle.std.specs.Option.{option_to_list}
-use Rattle.flat_design.specs.declared.walk.FaultAt.{FaultAt}
-use Rattle.flat_design.specs.declared.walk.Frame.{Frame}
-use Rattle.flat_design.specs.declared.walk.Halt.TheVariants as halt
-use Rattle.flat_design.specs.declared.walk.Mark.{Mark}
-use Rattle.flat_design.specs.declared.walk.Mark.TheVariants as mark
-use Rattle.flat_design.specs.declared.walk.Step.{Step}
-use Rattle.flat_design.specs.declared.walk.Step.TheVariants as step
+use Rattle.flat_design.specs.declared.elaborate.walk.FaultAt.{FaultAt}
+use Rattle.flat_design.specs.declared.elaborate.walk.Frame.{Frame}
+use Rattle.flat_design.specs.declared.elaborate.walk.Halt.TheVariants as halt
+use Rattle.flat_design.specs.declared.elaborate.walk.Mark.{Mark}
+use Rattle.flat_design.specs.declared.elaborate.walk.Mark.TheVariants as mark
+use Rattle.flat_design.specs.declared.elaborate.walk.Step.{Step}
+use Rattle.flat_design.specs.declared.elaborate.walk.Step.TheVariants as step
 use Rattle.flat_design.specs.Walk.{AreOrdered, IsOf, faults_along, faults_at, faults_below, faults_from, frame, halt_from, is_in, steps_of}
 use Rattle.flat_design.proofs.MarkFacts.{all_new, in_other, marked_more}
 use Rattle.flat_design.proofs.PlaceFacts.{drop_one, get_push}
 use Rattle.flat_design.proofs.WalkFacts.{is_closed, is_open, mark_of}
-use Rattle.flat_design.proofs.WalkSteps.{AreWaiting, IsFrame, IsStack, TurnOf, Walking, all_push, around_of, closed_not_open, enough, faults_suc, few_open, in_push, in_push_left, in_push_other, left, left_is, left_outside, modules_in, none_open, open_weight, other_mark, quiet_of, same_mark, total, total_set, turn, weight, weight_of_open}
-use Rattle.flat_design.proofs.WalkTurns.{closed_kept}
+use Rattle.flat_design.proofs.WalkSteps.{AreWaiting, IsFrame, IsStack, NextStepOf, Walking, all_push, around_of, closed_not_open, enough, faults_suc, few_open, in_push, in_push_left, in_push_other, left, left_is, left_outside, modules_in, none_open, open_weight, other_mark, quiet_of, same_mark, total, total_set, next_step, weight, weight_of_open}
+use Rattle.flat_design.proofs.WalkOpenings.{closed_kept}
 
 -- ---- closing a module
 
@@ -36,9 +36,9 @@ ordered_push all order m ordered own place n is =
 
 whole_passed : (order : List ℕ) (steps : List Step) (next : ℕ) → AllByRecursion (IsOf order) (take next steps) → AllByRecursion (IsOf order) (drop next steps)
     → AllByRecursion (IsOf order) steps
-whole_passed order steps zero before behind = behind
-whole_passed order [] (suc next) before behind = tt
-whole_passed order (one ∷ rest) (suc next) before behind = (before.0, whole_passed order rest next before.1 behind)
+whole_passed order steps zero before after = after
+whole_passed order [] (suc next) before after = tt
+whole_passed order (one ∷ rest) (suc next) before after = (before.0, whole_passed order rest next before.1 after)
 
 in_push_same : (xs : List ℕ) (m x : ℕ) → m ≡ x → is_in (xs ++ m ∷ []) x ≡ true
 in_push_same xs m x same = in_push xs m x ∙ or_right (is_in xs x) (m == x) (eq-eqb m x same)
@@ -49,7 +49,7 @@ frame_push : (all : List (List Step)) (order : List ℕ) (m : ℕ) (outer : List
 frame_push all order m outer g ne own = record {
   within = own.within;
   fresh = in_push_other order m g.body ne ∙ own.fresh;
-  apart = own.apart;
+  distinct = own.distinct;
   passed = all_push order m (take g.next (steps_of all g.body)) own.passed;
 }
 
@@ -60,27 +60,27 @@ not_first m x xs h =
 
 waiting_push : (all : List (List Step)) (order : List ℕ) (m inner : ℕ) (outer : List Frame) → is_in (modules_in outer) m ≡ false
     → AreWaiting all order inner outer → AreWaiting all (order ++ m ∷ []) inner outer
-waiting_push all order m inner [] apart waiting = tt
-waiting_push all order m inner (g ∷ rest) apart waiting =
-    let parts = not_first m g.body (modules_in rest) apart in
+waiting_push all order m inner [] distinct waiting = tt
+waiting_push all order m inner (g ∷ rest) distinct waiting =
+    let parts = not_first m g.body (modules_in rest) distinct in
     (frame_push all order m rest g parts.0 waiting.0, (waiting.1.0, waiting_push all order m g.body rest parts.1 waiting.1.1))
 
 stack_push : (all : List (List Step)) (order : List ℕ) (m : ℕ) (outer : List Frame) → is_in (modules_in outer) m ≡ false
     → AreWaiting all order m outer → IsStack all (order ++ m ∷ []) outer
-stack_push all order m [] apart waiting = tt
-stack_push all order m (g ∷ rest) apart waiting =
-    let parts = not_first m g.body (modules_in rest) apart in
+stack_push all order m [] distinct waiting = tt
+stack_push all order m (g ∷ rest) distinct waiting =
+    let parts = not_first m g.body (modules_in rest) distinct in
     (frame_push all order m rest g parts.0 waiting.0, waiting_push all order m g.body rest parts.1 waiting.1.1)
 
 -- a module that is closed has no faults where it is around, so that nothing is left of the instance that opened it
 passed_on : (all : List (List Step)) (order : List ℕ) (m levels : ℕ) (g : Frame) (rest : List Frame) → length all - length rest ≡ suc levels
     → slice_get (steps_of all g.body) g.next ≡ Some (step.Enter m true) → is_in (around_of g rest) m ≡ false
     → faults_from all levels (m ∷ around_of g rest) m 0 ≡ [] → left all (g ∷ rest) ≡ left_outside all (g ∷ rest)
-passed_on all order m levels g rest enough is apart quiet =
+passed_on all order m levels g rest enough is distinct quiet =
     let steps = steps_of all g.body in
     let inner = λ (e : ℕ). faults_from all levels (e ∷ around_of g rest) e 0 in
     let along = λ (n : ℕ) (xs : List Step). faults_along inner (around_of g rest) g.body n xs in
-    let here : faults_at inner (around_of g rest) g.body g.next (step.Enter m true) ≡ [] = cond-false (is_in (around_of g rest) m) _ _ apart ∙ quiet in
+    let here : faults_at inner (around_of g rest) g.body g.next (step.Enter m true) ≡ [] = cond-false (is_in (around_of g rest) m) _ _ distinct ∙ quiet in
     ap (λ (xs : List FaultAt). xs ++ left_outside all rest)
     (faults_suc all (length all - length rest) levels (around_of g rest) g.body g.next enough
     ∙ (ap (along g.next) (drop_one steps g.next (step.Enter m true) is)
@@ -93,7 +93,7 @@ closed_step marks order m h closed x =
     elim (cases_eq m x) [
       | inl same ↦ ap is_closed (subst (λ (n : ℕ). mark_of (set marks m mark.Closed) n ≡ mark.Closed) same (same_mark marks m mark.Closed h))
           ∙ sym (in_push_same order m x same)
-      | inr apart ↦ ap is_closed (other_mark marks m x mark.Closed apart) ∙ (closed x ∙ sym (in_push_other order m x apart))
+      | inr distinct ↦ ap is_closed (other_mark marks m x mark.Closed distinct) ∙ (closed x ∙ sym (in_push_other order m x distinct))
     ]
 
 opened_kept : (marks : List Mark) (modules : List ℕ) (m : ℕ) → m < length marks → is_in modules m ≡ false
@@ -102,17 +102,17 @@ opened_kept marks modules m h none opened x =
     elim (cases_eq m x) [
       | inl same ↦ ap is_open (subst (λ (n : ℕ). mark_of (set marks m mark.Closed) n ≡ mark.Closed) same (same_mark marks m mark.Closed h))
           ∙ sym (subst (λ (n : ℕ). is_in modules n ≡ false) same none)
-      | inr apart ↦ ap is_open (other_mark marks m x mark.Closed apart) ∙ (opened x ∙ in_other m x modules apart)
+      | inr distinct ↦ ap is_open (other_mark marks m x mark.Closed distinct) ∙ (opened x ∙ in_other m x modules distinct)
     ]
 
 -- the walked modules are not around
-apart_closed : (marks : List Mark) (order : List ℕ) (m : ℕ) (modules : List ℕ) → ((x : ℕ) → is_closed (mark_of marks x) ≡ is_in order x)
+distinct_closed : (marks : List Mark) (order : List ℕ) (m : ℕ) (modules : List ℕ) → ((x : ℕ) → is_closed (mark_of marks x) ≡ is_in order x)
     → ((x : ℕ) → is_open (mark_of marks x) ≡ is_in (m ∷ modules) x) → is_in modules m ≡ false
     → (a : ℕ) → is_in (order ++ m ∷ []) a ≡ true → is_in modules a ≡ false
-apart_closed marks order m modules closed opened none a h =
+distinct_closed marks order m modules closed opened none a h =
     elim (cases_eq m a) [
       | inl same ↦ subst (λ (n : ℕ). is_in modules n ≡ false) same none
-      | inr apart ↦ sym (in_other m a modules apart) ∙ (sym (opened a) ∙ closed_not_open (mark_of marks a) (closed a ∙ (sym (in_push_other order m a apart) ∙ h)))
+      | inr distinct ↦ sym (in_other m a modules distinct) ∙ (sym (opened a) ∙ closed_not_open (mark_of marks a) (closed a ∙ (sym (in_push_other order m a distinct) ∙ h)))
     ]
 
 left_closed : (all : List (List Step)) (top : ℕ) (marks : List Mark) (order : List ℕ) (f : Frame) (outer : List Frame) → Walking all top marks order (f ∷ outer)
@@ -120,9 +120,9 @@ left_closed : (all : List (List Step)) (top : ℕ) (marks : List Mark) (order : 
 left_closed all top marks order f [] w few ordered = refl
 left_closed all top marks order f (g ∷ rest) w few ordered =
     let own : IsFrame all order (g ∷ rest) f = w.frames.0 in
-    passed_on all order f.body (length all - suc (length rest)) g rest (omega arith) w.frames.1.1.0 own.apart
+    passed_on all order f.body (length all - suc (length rest)) g rest (omega arith) w.frames.1.1.0 own.distinct
     (quiet_of all (order ++ f.body ∷ []) (length all - suc (length rest)) f.body (around_of g rest) ordered
-    (apart_closed marks order f.body (modules_in (g ∷ rest)) w.closed w.opened own.apart)
+    (distinct_closed marks order f.body (modules_in (g ∷ rest)) w.closed w.opened own.distinct)
     (in_push_same order f.body f.body refl))
 
 close_depth : (marks : List Mark) (m n : ℕ) → m < length marks → is_open (mark_of marks m) ≡ true → total open_weight marks ≡ suc n
@@ -139,11 +139,11 @@ close_reached order modules top m h =
       ]
     ]
 
-pub turn_end : (all : List (List Step)) (top : ℕ) (marks : List Mark) (order : List ℕ) (f : Frame) (outer : List Frame)
+pub step_end : (all : List (List Step)) (top : ℕ) (marks : List Mark) (order : List ℕ) (f : Frame) (outer : List Frame)
     → Walking all top marks order (f ∷ outer) → halt_from marks f.next (drop f.next (steps_of all f.body)) ≡ halt.End
     → Walking all top (set marks f.body mark.Closed) (order ++ f.body ∷ []) outer
-turn_end all top marks order f outer w is =
-    let s : TurnOf all marks order f outer halt.End = subst (TurnOf all marks order f outer) is (turn all top marks order f outer w) in
+step_end all top marks order f outer w is =
+    let s : NextStepOf all marks order f outer halt.End = subst (NextStepOf all marks order f outer) is (next_step all top marks order f outer w) in
     let own : IsFrame all order outer f = w.frames.0 in
     let here : f.body < length marks = omega (arith, w.count, own.within) in
     let opened : is_open (mark_of marks f.body) ≡ true = w.opened f.body ∙ or_left (f.body == f.body) (is_in (modules_in outer) f.body) (eq-eqb f.body f.body refl) in
@@ -155,9 +155,9 @@ turn_end all top marks order f outer w is =
       faults = left_closed all top marks order f outer w few ordered
           ∙ (ap (λ (xs : List FaultAt). xs ++ left_outside all outer) (sym s.0) ∙ left_is all top marks order f outer w);
       closed = closed_step marks order f.body here w.closed;
-      opened = opened_kept marks (modules_in outer) f.body here own.apart w.opened;
+      opened = opened_kept marks (modules_in outer) f.body here own.distinct w.opened;
       ordered = ordered;
-      frames = stack_push all order f.body outer own.apart w.frames.1;
+      frames = stack_push all order f.body outer own.distinct w.frames.1;
       depth = close_depth marks f.body (length outer) here opened w.depth;
       reached = close_reached order (modules_in outer) top f.body w.reached;
     }
@@ -190,7 +190,7 @@ begun all top h =
       closed = closed_kept (replicate n mark.New) [] top here (new top) (λ x. ap is_closed (new x));
       opened = λ m. one_open n top m h;
       ordered = λ place m is. let e : None ≡ Some m = is in cc;
-      frames = (record { within = h; fresh = refl; apart = refl; passed = tt }, tt);
+      frames = (record { within = h; fresh = refl; distinct = refl; passed = tt }, tt);
       depth = omega (arith, total_set open_weight (replicate n mark.New) top mark.Open here, none_open n, ap open_weight (new top));
       reached = or_left (top == top) false (eq-eqb top top refl);
     }

@@ -3,13 +3,13 @@ use Rattle.std.proofs.Common.{◌≡◌, ◌+◌, ◌<◌, ◌≤◌, ◌==◌, 
 use Rattle.std.proofs.lemmas.Bool.{false≢true, true≢false, or_cases, or_left, or_right, eqb-true, ne_eqb, cond-true, cond-false}
 use Rattle.std.specs.List.{AllByRecursion}
 use Rattle.source_types.specs.declared.fault_kinds.DesignKind.TheVariants as fault
-use Rattle.flat_design.specs.declared.walk.FaultAt.{FaultAt}
-use Rattle.flat_design.specs.declared.walk.Halt.{Halt}
-use Rattle.flat_design.specs.declared.walk.Halt.TheVariants as halt
-use Rattle.flat_design.specs.declared.walk.Mark.{Mark}
-use Rattle.flat_design.specs.declared.walk.Mark.TheVariants as mark
-use Rattle.flat_design.specs.declared.walk.Step.{Step}
-use Rattle.flat_design.specs.declared.walk.Step.TheVariants as step
+use Rattle.flat_design.specs.declared.elaborate.walk.FaultAt.{FaultAt}
+use Rattle.flat_design.specs.declared.elaborate.walk.Halt.{Halt}
+use Rattle.flat_design.specs.declared.elaborate.walk.Halt.TheVariants as halt
+use Rattle.flat_design.specs.declared.elaborate.walk.Mark.{Mark}
+use Rattle.flat_design.specs.declared.elaborate.walk.Mark.TheVariants as mark
+use Rattle.flat_design.specs.declared.elaborate.walk.Step.{Step}
+use Rattle.flat_design.specs.declared.elaborate.walk.Step.TheVariants as step
 use Rattle.flat_design.specs.Walk.{AreOrdered, IsOf, fault_at, faults_along, faults_at, faults_entered, faults_from, halt_at, halt_entering, halt_from, halt_or, is_in, steps_of}
 
 -- ---- numbers in lists
@@ -18,7 +18,7 @@ pub differ : (xs : List ℕ) (a b : ℕ) → is_in xs a ≡ true → is_in xs b 
 differ xs a b has lacks same = false≢true (sym lacks ∙ (ap (λ (x : ℕ). is_in xs x) same ∙ has))
 
 pub in_cons_false : (x m : ℕ) (xs : List ℕ) → (x ≡ m → ⊥) → is_in xs m ≡ false → is_in (x ∷ xs) m ≡ false
-in_cons_false x m xs apart e = rw (ne_eqb x m apart) e
+in_cons_false x m xs distinct e = rw (ne_eqb x m distinct) e
 
 pub in_take_place : (xs : List ℕ) (n e : ℕ) → is_in (take n xs) e ≡ true → (q : ℕ) × (q < n) × (slice_get xs q ≡ Some e)
 in_take_place [] zero e h = absurd (false≢true h)
@@ -44,8 +44,8 @@ in_take_less (x ∷ xs) (suc q) (suc n) e le h =
 -- ---- modules that were walked
 
 -- what is in one list is not in another
-abbrev pub AreApart : List ℕ → List ℕ → Type 0
-AreApart before around = (a : ℕ) → is_in before a ≡ true → is_in around a ≡ false
+abbrev pub AreDisjoint : List ℕ → List ℕ → Type 0
+AreDisjoint before around = (a : ℕ) → is_in before a ≡ true → is_in around a ≡ false
 
 entered_quiet : (near fits : Bool) (cycle wide inner : List FaultAt) → near ≡ false → fits ≡ true → inner ≡ [] → cond near cycle (cond fits inner wide) ≡ []
 entered_quiet false true cycle wide inner far fit none = none
@@ -71,17 +71,17 @@ quiet_along inner around before m place (one ∷ rest) quiet all =
 
 -- a module that was walked has no faults, wherever it stands
 pub clean : (all : List (List Step)) (order : List ℕ) → AreOrdered all order → (levels place m : ℕ) (around : List ℕ)
-    → slice_get order place ≡ Some m → AreApart (take place order) around → faults_from all levels (m ∷ around) m 0 ≡ []
-clean all order ordered zero place m around is apart = refl
-clean all order ordered (suc levels) place m around is apart =
+    → slice_get order place ≡ Some m → AreDisjoint (take place order) around → faults_from all levels (m ∷ around) m 0 ≡ []
+clean all order ordered zero place m around is distinct = refl
+clean all order ordered (suc levels) place m around is distinct =
     let own : (m < length all) × (is_in (take place order) m ≡ false) × AllByRecursion (IsOf (take place order)) (steps_of all m) = ordered place m is in
     quiet_along (λ entered. faults_from all levels (entered ∷ m ∷ around) entered 0) (m ∷ around) (take place order) m 0 (steps_of all m)
     (λ e h. let at : (q : ℕ) × (q < place) × (slice_get order q ≡ Some e) = in_take_place order place e h in
     let less : at.0 ≤ place = omega arith in (
-      in_cons_false m e around (differ (take place order) e m h own.1) (apart e h),
+      in_cons_false m e around (differ (take place order) e m h own.1) (distinct e h),
       clean all order ordered levels at.0 e (m ∷ around) at.2
           (λ a g. let here : is_in (take place order) a ≡ true = in_take_less order at.0 place a less g in
-          in_cons_false m a around (differ (take place order) a m here own.1) (apart a here)),
+          in_cons_false m a around (differ (take place order) a m here own.1) (distinct a here)),
     ))
     own.2
 
@@ -141,7 +141,7 @@ stops_at marks order around inner m place (step.Cell kind) agrees = (refl, tt)
 stops_at marks order around inner m place (step.Enter e fits) agrees = stops_entering marks order around inner m place e fits agrees (mark_of marks e) refl
 
 -- what the faults along instances are, by what stops there: none, a first one, or those of a module that was not walked
--- yet and of the instances behind it
+-- yet and of the instances after it
 abbrev pub StopsAlong : List Mark → List ℕ → List ℕ → (ℕ → List FaultAt) → ℕ → ℕ → List Step → Halt → Type 0
 StopsAlong marks order around inner m place steps halt.End =
     (faults_along inner around m place steps ≡ []) × AllByRecursion (IsOf order) steps

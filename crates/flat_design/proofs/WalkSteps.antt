@@ -1,4 +1,4 @@
--- What holds of the walk at each of its turns.
+-- What holds of the walk at each of its steps.
 use Rattle.std.proofs.Common.{◌≡◌, ◌+◌, ◌-◌, ◌<◌, ◌≤◌, ◌||◌, ◌==◌, inl, inr, ℕ, zero, suc, Bool, true, false, List, [], ◌∷◌, ◌++◌, map, length, take, drop, set, replicate, slice_get, Some, refl, sym, ◌∙◌, ap, subst, arith}
 use Rattle.std.specs.Prelude.{⊤}
 use Rattle.std.proofs.lemmas.Bool.{false≢true, or_cases, or_left, or_right, eqb-true, ne_eqb}
@@ -7,14 +7,14 @@ use Rattle.std.proofs.lemmas.List.Folds.{list_any-append}
 use Rattle.std.proofs.Math.Bool.{or-false}
 use Rattle.std.specs.List.{AllByRecursion}
 use Rattle.source_types.specs.declared.fault_kinds.DesignKind.{DesignKind}
-use Rattle.flat_design.specs.declared.walk.FaultAt.{FaultAt}
-use Rattle.flat_design.specs.declared.walk.Frame.{Frame}
-use Rattle.flat_design.specs.declared.walk.Halt.{Halt}
-use Rattle.flat_design.specs.declared.walk.Halt.TheVariants as halt
-use Rattle.flat_design.specs.declared.walk.Mark.{Mark}
-use Rattle.flat_design.specs.declared.walk.Mark.TheVariants as mark
-use Rattle.flat_design.specs.declared.walk.Step.{Step}
-use Rattle.flat_design.specs.declared.walk.Step.TheVariants as step
+use Rattle.flat_design.specs.declared.elaborate.walk.FaultAt.{FaultAt}
+use Rattle.flat_design.specs.declared.elaborate.walk.Frame.{Frame}
+use Rattle.flat_design.specs.declared.elaborate.walk.Halt.{Halt}
+use Rattle.flat_design.specs.declared.elaborate.walk.Halt.TheVariants as halt
+use Rattle.flat_design.specs.declared.elaborate.walk.Mark.{Mark}
+use Rattle.flat_design.specs.declared.elaborate.walk.Mark.TheVariants as mark
+use Rattle.flat_design.specs.declared.elaborate.walk.Step.{Step}
+use Rattle.flat_design.specs.declared.elaborate.walk.Step.TheVariants as step
 use Rattle.flat_design.specs.Walk.{AreOrdered, IsOf, fault_at, faults_along, faults_below, faults_from, halt_from, is_in, steps_of}
 use Rattle.flat_design.proofs.WalkFacts.{StopsAlong, clean, is_closed, is_open, mark_of, stops_along}
 
@@ -42,7 +42,7 @@ pub in_push : (xs : List ℕ) (x e : ℕ) → is_in (xs ++ x ∷ []) e ≡ (is_i
 in_push xs x e = list_any-append (λ (other : ℕ). other == e) xs (x ∷ []) ∙ ap (λ (t : Bool). is_in xs e || t) (or-false (x == e))
 
 pub in_push_other : (xs : List ℕ) (m x : ℕ) → (m ≡ x → ⊥) → is_in (xs ++ m ∷ []) x ≡ is_in xs x
-in_push_other xs m x apart = in_push xs m x ∙ (ap (λ (b : Bool). is_in xs x || b) (ne_eqb m x apart) ∙ or-false (is_in xs x))
+in_push_other xs m x distinct = in_push xs m x ∙ (ap (λ (b : Bool). is_in xs x || b) (ne_eqb m x distinct) ∙ or-false (is_in xs x))
 
 pub in_push_left : (xs : List ℕ) (x e : ℕ) → is_in xs e ≡ true → is_in (xs ++ x ∷ []) e ≡ true
 in_push_left xs x e h = in_push xs x e ∙ or_left (is_in xs e) (x == e) h
@@ -91,7 +91,7 @@ pub same_mark : (marks : List Mark) (i : ℕ) (mk : Mark) → i < length marks �
 same_mark marks i mk h = get_or-set_same marks i mk mark.New h
 
 pub other_mark : (marks : List Mark) (i j : ℕ) (mk : Mark) → (i ≡ j → ⊥) → mark_of (set marks i mk) j ≡ mark_of marks j
-other_mark marks i j mk apart = get_or-set_other marks i j mk mark.New (λ e. apart (sym e))
+other_mark marks i j mk distinct = get_or-set_other marks i j mk mark.New (λ e. distinct (sym e))
 
 pub closed_not_open : (mk : Mark) → is_closed mk ≡ true → is_open mk ≡ false
 closed_not_open mark.New h = absurd (false≢true h)
@@ -108,7 +108,7 @@ weight_of_open mark.Closed h = absurd (false≢true h)
 abbrev pub modules_in : List Frame → List ℕ
 modules_in frames = map (λ (f : Frame). f.body) frames
 
--- the faults that are left where a module is being walked, and its instances behind the one that is walked are left
+-- the faults that are left where a module is being walked, and its instances after the one that is walked are left
 abbrev pub left_outside : List (List Step) → List Frame → List FaultAt
 left_outside all [] = []
 left_outside all (f ∷ outer) =
@@ -122,7 +122,7 @@ left all (f ∷ outer) =
 pub record IsFrame (all : List (List Step)) (order : List ℕ) (outer : List Frame) (f : Frame) : Type 0 where
   pub within : f.body < length all
   pub fresh : is_in order f.body ≡ false
-  pub apart : is_in (modules_in outer) f.body ≡ false
+  pub distinct : is_in (modules_in outer) f.body ≡ false
   pub passed : AllByRecursion (IsOf order) (take f.next (steps_of all f.body))
 
 abbrev pub AreWaiting : List (List Step) → List ℕ → ℕ → List Frame → Type 0
@@ -144,7 +144,7 @@ pub record Walking (all : List (List Step)) (top : ℕ) (marks : List Mark) (ord
   pub depth : total open_weight marks ≡ length stack
   pub reached : (is_in order top || is_in (modules_in stack) top) ≡ true
 
--- ---- at a turn
+-- ---- at a step
 
 pub faults_suc : (all : List (List Step)) (n k : ℕ) (around : List ℕ) (m next : ℕ) → n ≡ suc k
     → faults_from all n around m next ≡ faults_along (λ entered. faults_from all k (entered ∷ around) entered 0) around m next (drop next (steps_of all m))
@@ -159,20 +159,20 @@ inner_of all f outer entered = faults_from all (length all - suc (length outer))
 -- modules that were walked have no faults
 pub quiet_of : (all : List (List Step)) (order : List ℕ) (levels e : ℕ) (around : List ℕ) → AreOrdered all order
     → ((a : ℕ) → is_in order a ≡ true → is_in around a ≡ false) → is_in order e ≡ true → faults_from all levels (e ∷ around) e 0 ≡ []
-quiet_of all order levels e around ordered apart h =
+quiet_of all order levels e around ordered distinct h =
     let at : (q : ℕ) × (slice_get order q ≡ Some e) = in_place order e h in
-    clean all order ordered levels at.0 e around at.1 (λ a g. apart a (in_take_in order at.0 a g))
+    clean all order ordered levels at.0 e around at.1 (λ a g. distinct a (in_take_in order at.0 a g))
 
-abbrev pub TurnOf : List (List Step) → List Mark → List ℕ → Frame → List Frame → Halt → Type 0
-TurnOf all marks order f outer h = StopsAlong marks order (around_of f outer) (inner_of all f outer) f.body f.next (drop f.next (steps_of all f.body)) h
+abbrev pub NextStepOf : List (List Step) → List Mark → List ℕ → Frame → List Frame → Halt → Type 0
+NextStepOf all marks order f outer h = StopsAlong marks order (around_of f outer) (inner_of all f outer) f.body f.next (drop f.next (steps_of all f.body)) h
 
 pub enough : (all : List (List Step)) (top : ℕ) (marks : List Mark) (order : List ℕ) (f : Frame) (outer : List Frame)
     → Walking all top marks order (f ∷ outer) → length all - length outer ≡ suc (length all - suc (length outer))
 enough all top marks order f outer w = omega (arith, few_open marks, w.count, w.depth)
 
-pub turn : (all : List (List Step)) (top : ℕ) (marks : List Mark) (order : List ℕ) (f : Frame) (outer : List Frame)
-    → Walking all top marks order (f ∷ outer) → TurnOf all marks order f outer (halt_from marks f.next (drop f.next (steps_of all f.body)))
-turn all top marks order f outer w =
+pub next_step : (all : List (List Step)) (top : ℕ) (marks : List Mark) (order : List ℕ) (f : Frame) (outer : List Frame)
+    → Walking all top marks order (f ∷ outer) → NextStepOf all marks order f outer (halt_from marks f.next (drop f.next (steps_of all f.body)))
+next_step all top marks order f outer w =
     stops_along marks order (around_of f outer) (inner_of all f outer) f.body f.next (drop f.next (steps_of all f.body)) (record {
       opened = w.opened;
       walked = λ e h. sym (w.closed e) ∙ h;
@@ -181,7 +181,7 @@ turn all top marks order f outer w =
           (sym (w.closed e) ∙ h);
     })
 
--- what is left, with the turn's frame opened up
+-- what is left, with the step's frame opened up
 pub left_is : (all : List (List Step)) (top : ℕ) (marks : List Mark) (order : List ℕ) (f : Frame) (outer : List Frame)
     → Walking all top marks order (f ∷ outer)
     → faults_along (inner_of all f outer) (around_of f outer) f.body f.next (drop f.next (steps_of all f.body)) ++ left_outside all outer ≡ faults_below all top
@@ -191,9 +191,9 @@ left_is all top marks order f outer w =
     ∙ w.faults
 
 -- the walk has found a fault
-pub turn_fault : (all : List (List Step)) (top : ℕ) (marks : List Mark) (order : List ℕ) (f : Frame) (outer : List Frame) (instance : ℕ) (kind : DesignKind)
+pub step_fault : (all : List (List Step)) (top : ℕ) (marks : List Mark) (order : List ℕ) (f : Frame) (outer : List Frame) (instance : ℕ) (kind : DesignKind)
     → Walking all top marks order (f ∷ outer) → halt_from marks f.next (drop f.next (steps_of all f.body)) ≡ halt.Fault instance kind
     → (rest : List FaultAt) × (faults_below all top ≡ fault_at f.body instance kind ∷ rest)
-turn_fault all top marks order f outer instance kind w is =
-    let s : TurnOf all marks order f outer (halt.Fault instance kind) = subst (TurnOf all marks order f outer) is (turn all top marks order f outer w) in
+step_fault all top marks order f outer instance kind w is =
+    let s : NextStepOf all marks order f outer (halt.Fault instance kind) = subst (NextStepOf all marks order f outer) is (next_step all top marks order f outer w) in
     (s.0 ++ left_outside all outer, sym (left_is all top marks order f outer w) ∙ ap (λ (xs : List FaultAt). xs ++ left_outside all outer) s.1)

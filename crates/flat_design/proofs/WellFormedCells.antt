@@ -9,23 +9,26 @@ use Rattle.timing_types.specs.declared.designs.PinInfo.{PinInfo}
 use Rattle.timing_types.specs.declared.designs.Role.{Role}
 use Rattle.source_types.specs.declared.fault_kinds.DesignKind.TheVariants as fault
 use Rattle.source_types.specs.declared.libraries.Library.{Library}
-use Rattle.source_types.specs.declared.library_cells.Direction.{Direction}
-use Rattle.source_types.specs.declared.library_cells.Direction.TheVariants as direction
-use Rattle.source_types.specs.declared.library_cells.LibCell.{LibCell}
+use Rattle.pin_types.specs.declared.library_cells.Direction.{Direction}
+use Rattle.pin_types.specs.declared.library_cells.Direction.TheVariants as direction
+use Rattle.pin_types.specs.declared.library_cells.LibCell.{LibCell}
 use Rattle.source_types.specs.declared.netlists.Links.{Links}
 use Rattle.source_types.specs.declared.netlists.Module.{Module}
 use Rattle.source_types.specs.declared.netlists.Port.{Port}
-use Rattle.sdc_model.specs.Connections.{cell_fault, instance_fault}
-use Rattle.sdc_model.specs.FlatDesign.{Flat, FlatCell, FlatPin, IsCell, IsFlatDesign, IsPin, cell_pin, cell_pins, flat, port_pin, port_pins, port_role}
-use Rattle.sdc_model.specs.FlatFaults.{cell_pin_name, flat_pin_name, is_among}
-use Rattle.sdc_model.specs.FlatNets.{net_name}
-use Rattle.sdc_model.specs.Flattening.{IsWellFormedLibrary, NoneOfCells, NoneOfInstances, NoneOfNets}
-use Rattle.sdc_model.specs.Instances.{Meant, Placed, PlacedCell, a_cell, a_module, cell_at, cells_of, instances_of, meant, unknown}
-use Rattle.sdc_model.specs.Ranges.{indices}
-use Rattle.sdc_model.specs.WellFormedDesign.{AreGoodNames, IsInCell, IsUsable, IsWellFormedCell, is_good_name, role_in_cell}
-use Rattle.sdc_model.specs.WellFormedNetlist.{IsWellFormedModule}
-use Rattle.sdc_model.proofs.ListFacts.{all_at}
-use Rattle.flat_design.proofs.ApartFacts.{get_flat, get_kept, get_map}
+use Rattle.flat_model.specs.Connections.{cell_fault, instance_fault}
+use Rattle.flat_model.specs.FlatDesign.{Flat, FlatCell, FlatPin, IsCell, IsFlatDesign, IsPin, cell_pin, cell_pins, flat, port_pin, port_pins, port_role}
+use Rattle.flat_model.specs.FlatFaults.{cell_pin_name, flat_pin_name, is_among}
+use Rattle.flat_model.specs.FlatNets.{net_name}
+use Rattle.design_model.specs.UsableLibrary.{IsWellFormedLibrary}
+use Rattle.flat_model.specs.Flattening.{NoneOfCells, NoneOfInstances, NoneOfNets}
+use Rattle.flat_model.specs.Instances.{Meant, Placed, PlacedCell, a_cell, a_module, cell_at, cells_of, instances_of, meant, unknown}
+use Rattle.netlist_model.specs.Ranges.{indices}
+use Rattle.text_model.specs.Names.{AreGoodNames, is_good_name}
+use Rattle.design_model.specs.WellFormedDesign.{IsInCell, IsWellFormedCell, role_in_cell}
+use Rattle.design_model.specs.UsableLibrary.{IsUsable}
+use Rattle.netlist_model.specs.WellFormedNetlist.{IsWellFormedModule}
+use Rattle.text_model.proofs.ListFacts.{all_at}
+use Rattle.flat_design.proofs.DistinctFacts.{get_flat, get_kept, get_map}
 use Rattle.flat_design.proofs.CellPlaces.{cell_back}
 use Rattle.flat_design.proofs.TerminalFacts.{zip_at}
 use Rattle.flat_design.proofs.WellFormedLists.{good_names, zip_back, zip_map}

@@ -4,10 +4,11 @@ use Rattle.sdc_base.specs.Time.{IsUnit}
 use Rattle.timing_types.specs.declared.designs.Design.{Design}
 use Rattle.source_types.specs.declared.libraries.Library.{Library}
 use Rattle.source_types.specs.declared.netlists.Module.{Module}
-use Rattle.sdc_model.specs.FlatDesign.{IsFlatDesign, flat}
-use Rattle.sdc_model.specs.Flattening.{HasNoFaults, IsWellFormedLibrary}
-use Rattle.sdc_model.specs.WellFormedDesign.{IsWellFormedDesign}
-use Rattle.sdc_model.specs.WellFormedNetlist.{IsWellFormedModule}
+use Rattle.flat_model.specs.FlatDesign.{IsFlatDesign, flat}
+use Rattle.flat_model.specs.Flattening.{HasNoFaults}
+use Rattle.design_model.specs.UsableLibrary.{IsWellFormedLibrary}
+use Rattle.design_model.specs.WellFormedDesign.{IsWellFormedDesign}
+use Rattle.netlist_model.specs.WellFormedNetlist.{IsWellFormedModule}
 use Rattle.flat_design.proofs.WellFormedCells.{cell_formed, pin_formed, pin_names_good}
 use Rattle.flat_design.proofs.WellFormedNames.{cell_names_good, net_names_good}
 use Rattle.flat_design.proofs.WellFormedSources.{drivers_drive, sources_drive}

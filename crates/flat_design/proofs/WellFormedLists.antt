@@ -4,11 +4,11 @@ use Rattle.std.proofs.lemmas.Bool.{cases_lt, or_left, or_right, true_from_ne_fal
 use Rattle.std.proofs.lemmas.List.{take-map}
 use Rattle.std.proofs.lemmas.Slice.Eq.{bytes_eq-Decides}
 use Rattle.std.specs.List.{AllZip, enumerate_from, filter, filter_map, flat_map, zip}
-use Rattle.sdc_model.specs.FlatFaults.{is_among}
-use Rattle.sdc_model.specs.WellFormedDesign.{AreDistinct, AreGoodNames, is_good_name}
-use Rattle.sdc_model.specs.Words.{same_text}
-use Rattle.sdc_model.proofs.ListFacts.{get_append}
-use Rattle.flat_design.proofs.ApartFacts.{get_flat, get_kept, get_map}
+use Rattle.flat_model.specs.FlatFaults.{is_among}
+use Rattle.text_model.specs.Names.{AreDistinct, AreGoodNames, is_good_name}
+use Rattle.text_model.specs.Words.{same_text}
+use Rattle.text_model.proofs.ListFacts.{get_append}
+use Rattle.flat_design.proofs.DistinctFacts.{get_flat, get_kept, get_map}
 use Rattle.flat_design.proofs.PlaceFacts.{all_from}
 
 -- ---- places
@@ -75,7 +75,7 @@ Every {X} P xs = (i : ℕ) (x : X) → slice_get xs i ≡ Some x → P x
 
 pub every_append : {X : Type 0} (P : X → Type 0) (xs ys : List X) → Every P xs → Every P ys → Every P (xs ++ ys)
 every_append P xs ys front back i x at =
-    elim (get_append xs ys i x at) [ inl before ↦ front i x before | inr behind ↦ back behind.0 x behind.2 ]
+    elim (get_append xs ys i x at) [ inl before ↦ front i x before | inr after ↦ back after.0 x after.2 ]
 
 pub every_flat : {X Y : Type 0} (P : Y → Type 0) (f : X → List Y) (xs : List X) → ((i : ℕ) (x : X) → slice_get xs i ≡ Some x → Every P (f x)) → Every P (flat_map f xs)
 every_flat P f xs each i y at = let r = get_flat f xs i y at in each r.0 r.1 r.3 r.2 y r.4

@@ -12,16 +12,16 @@ use Rattle.source_types.specs.declared.libraries.Library.{Library}
 use Rattle.source_types.specs.declared.netlists.Module.{Module}
 use Rattle.source_types.specs.declared.netlists.Port.{Port}
 use Rattle.source_types.specs.declared.netlists.Wire.{Wire}
-use Rattle.sdc_model.specs.FlatDesign.{Flat, FlatPin, IsCell, IsFlatDesign, IsNet, flat, port_pins}
-use Rattle.sdc_model.specs.FlatFaults.{cell_name, flat_pin_name}
-use Rattle.sdc_model.specs.FlatNets.{FlatNet, net_name, nets_in}
-use Rattle.sdc_model.specs.Flattening.{NoneOfCells, NoneOfNets}
-use Rattle.sdc_model.specs.Instances.{entered, instances_of, top_spot}
-use Rattle.sdc_model.specs.WellFormedDesign.{AreGoodNames}
-use Rattle.sdc_model.specs.WellFormedNetlist.{IsNetOfPort, IsWellFormedModule}
-use Rattle.sdc_model.proofs.ListFacts.{front_at}
+use Rattle.flat_model.specs.FlatDesign.{Flat, FlatPin, IsCell, IsFlatDesign, IsNet, flat, port_pins}
+use Rattle.flat_model.specs.FlatFaults.{cell_name, flat_pin_name}
+use Rattle.flat_model.specs.FlatNets.{FlatNet, net_name, nets_in}
+use Rattle.flat_model.specs.Flattening.{NoneOfCells, NoneOfNets}
+use Rattle.flat_model.specs.Instances.{entered, instances_of, top_scope}
+use Rattle.text_model.specs.Names.{AreGoodNames}
+use Rattle.netlist_model.specs.WellFormedNetlist.{IsNetOfPort, IsWellFormedModule}
+use Rattle.text_model.proofs.ListFacts.{front_at}
 use Rattle.flat_design.specs.Hierarchy.{bit_names, port_names, wire_names}
-use Rattle.flat_design.proofs.ApartFacts.{get_map}
+use Rattle.flat_design.proofs.DistinctFacts.{get_map}
 use Rattle.flat_design.proofs.NameFacts.{names_in}
 use Rattle.flat_design.proofs.PinFacts.{ports_names_are}
 use Rattle.flat_design.proofs.RangeFacts.{map_at}
@@ -69,9 +69,9 @@ ports_first modules library top formed =
     let inner = flat_map nets_in (filter_map (entered modules) (instances_of modules top)) in
     let rest = flat_map (wire_names []) wires in (
       rest ++ map net_name inner,
-      map-append net_name (nets_in (top_spot top)) inner
+      map-append net_name (nets_in (top_scope top)) inner
           ∙ (ap (λ (names : List (List ℕ)). names ++ map net_name inner)
-          (names_in (top_spot top)
+          (names_in (top_scope top)
           ∙ (ap (flat_map (wire_names [])) formed.ports.2
           ∙ (flat_map-append (wire_names []) own wires
           ∙ ap (λ (names : List (List ℕ)). names ++ rest) (same_names top.ports own formed.ports.3 ∙ sym (ports_names_are top)))))

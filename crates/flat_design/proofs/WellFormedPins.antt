@@ -2,18 +2,18 @@
 use Rattle.std.proofs.Common.{◌≡◌, ◌+◌, ◌⊎◌, inl, inr, ℕ, List, length, take, slice_get, Some, ◌∙◌, ap, arith}
 use Rattle.std.specs.List.{enumerate_from, flat_map}
 use Rattle.source_types.specs.declared.libraries.Library.{Library}
-use Rattle.source_types.specs.declared.library_cells.LibPin.{LibPin}
+use Rattle.pin_types.specs.declared.library_cells.LibPin.{LibPin}
 use Rattle.source_types.specs.declared.netlists.Bit.{Bit}
 use Rattle.source_types.specs.declared.netlists.Module.{Module}
-use Rattle.sdc_model.specs.Connections.{connected, names_of, pins_of}
-use Rattle.sdc_model.specs.FlatDesign.{FlatCell, FlatPin, cell_pin, cell_pins, flat, port_pins}
-use Rattle.sdc_model.specs.FlatNets.{connected_pins}
-use Rattle.sdc_model.specs.Instances.{PlacedCell, cells_of}
-use Rattle.sdc_model.proofs.ListFacts.{get_append}
-use Rattle.flat_design.specs.Layout.{pins_in}
-use Rattle.flat_design.proofs.ApartFacts.{get_flat, get_map}
+use Rattle.flat_model.specs.Connections.{connected, names_of, pins_of}
+use Rattle.flat_model.specs.FlatDesign.{FlatCell, FlatPin, cell_pin, cell_pins, flat, port_pins}
+use Rattle.flat_model.specs.FlatNets.{connected_pins}
+use Rattle.flat_model.specs.Instances.{PlacedCell, cells_of}
+use Rattle.text_model.proofs.ListFacts.{get_append}
+use Rattle.flat_design.specs.Elaboration.{pins_in}
+use Rattle.flat_design.proofs.DistinctFacts.{get_flat, get_map}
 use Rattle.flat_design.proofs.CellPlaces.{cell_back, cell_there, flat_cell}
-use Rattle.flat_design.proofs.NumberFacts.{behind_at, flat_at}
+use Rattle.flat_design.proofs.NumberFacts.{after_at, flat_at}
 use Rattle.flat_design.proofs.PinCounts.{cells_length}
 use Rattle.flat_design.proofs.PinNumbers.{connection_at, numbered_at, numbered_take}
 use Rattle.flat_design.proofs.RangeFacts.{map_at}
@@ -21,7 +21,7 @@ use Rattle.flat_design.proofs.WellFormedLists.{numbered_back, zip_first}
 
 -- ---- pins of cells
 
--- how many pins stand before those of a cell, ports apart
+-- how many pins stand before those of a cell, except ports
 before_cell : (n : ℕ) (cells : List PlacedCell) → length (flat_map cell_pins (take n (enumerate_from 0 cells))) ≡ pins_in (take n cells)
 before_cell n cells = ap (λ (xs : List (ℕ × PlacedCell)). length (flat_map cell_pins xs)) (numbered_take 0 n cells) ∙ cells_length 0 (take n cells)
 
@@ -51,7 +51,7 @@ cell_pin_there modules library top n at cell pin cell_is pin_is =
     let among : slice_get (flat_map cell_pins (enumerate_from 0 cells)) (length (flat_map cell_pins (take n (enumerate_from 0 cells))) + at) ≡ Some one =
     flat_at cell_pins (enumerate_from 0 cells) n at (0 + n, cell.is) one (numbered_at 0 cells n cell.is r.0) inside in
     let whole : slice_get (flat modules library top).pins (length ports + (length (flat_map cell_pins (take n (enumerate_from 0 cells))) + at)) ≡ Some one =
-    behind_at ports (flat_map cell_pins (enumerate_from 0 cells)) (length (flat_map cell_pins (take n (enumerate_from 0 cells))) + at) one among in
+    after_at ports (flat_map cell_pins (enumerate_from 0 cells)) (length (flat_map cell_pins (take n (enumerate_from 0 cells))) + at) one among in
     let before = before_cell n cells in
     let same : cell.first + at ≡ length ports + (length (flat_map cell_pins (take n (enumerate_from 0 cells))) + at) = omega (arith, before, r.1) in
     let n_is : 0 + n ≡ n = omega arith in
@@ -99,5 +99,5 @@ pub pin_back : (modules : List Module) (library : Library) (top : Module) (numbe
 pin_back modules library top number pin at =
     elim (get_append (port_pins top) (flat_map cell_pins (enumerate_from 0 (cells_of modules library top))) number pin at) [
       | inl port ↦ inl port
-      | inr behind ↦ inr (of_cell modules library top number behind.0 pin behind.1 behind.2)
+      | inr after ↦ inr (of_cell modules library top number after.0 pin after.1 after.2)
     ]

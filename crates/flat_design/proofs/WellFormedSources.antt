@@ -10,20 +10,20 @@ use Rattle.timing_types.specs.declared.designs.Role.TheVariants.{CellOut, InPort
 use Rattle.timing_types.specs.declared.designs.Source.{Source}
 use Rattle.timing_types.specs.declared.designs.Source.TheVariants as source
 use Rattle.source_types.specs.declared.libraries.Library.{Library}
-use Rattle.source_types.specs.declared.library_cells.LibPin.{LibPin}
+use Rattle.pin_types.specs.declared.library_cells.LibPin.{LibPin}
 use Rattle.source_types.specs.declared.netlists.Module.{Module}
 use Rattle.source_types.specs.declared.netlists.Port.{Port}
 use Rattle.source_types.specs.declared.netlists.Wire.{Wire}
-use Rattle.sdc_model.specs.FlatDesign.{EndsIn, Flat, FlatPin, IsDriverOf, IsFlatDesign, IsNet, IsPin, IsSourceOf, flat, pin_places, port_role}
-use Rattle.sdc_model.specs.FlatNets.{NetBit, Origin, PinPlace, bit_of, feeds_of, from_net, from_pin, from_value, pin_of, port_bit}
-use Rattle.sdc_model.specs.Instances.{PlacedCell, cell_at, cells_of, instances_of, meant, path_of, top_spot}
-use Rattle.sdc_model.specs.WellFormedDesign.{IsDriver, role_in_cell}
-use Rattle.sdc_model.specs.WellFormedNetlist.{IsNetOfPort, IsWellFormedModule}
-use Rattle.sdc_model.proofs.ListFacts.{front_at}
-use Rattle.flat_design.proofs.ApartFacts.{Apart, apart_kept, get_map}
+use Rattle.flat_model.specs.FlatDesign.{EndsIn, Flat, FlatPin, IsDriverOf, IsFlatDesign, IsNet, IsPin, IsSourceOf, flat, pin_places, port_role}
+use Rattle.flat_model.specs.FlatNets.{NetBit, Origin, PinPlace, bit_of, drivers_of, from_net, from_pin, from_value, pin_of, port_bit}
+use Rattle.flat_model.specs.Instances.{PlacedCell, cell_at, cells_of, instances_of, meant, path_of, top_scope}
+use Rattle.design_model.specs.WellFormedDesign.{IsDriver, role_in_cell}
+use Rattle.netlist_model.specs.WellFormedNetlist.{IsNetOfPort, IsWellFormedModule}
+use Rattle.text_model.proofs.ListFacts.{front_at}
+use Rattle.flat_design.proofs.DistinctFacts.{Distinct, distinct_kept, get_map}
 use Rattle.flat_design.proofs.CellPlaces.{cell_back}
 use Rattle.flat_design.proofs.HierarchyFacts.{one_at}
-use Rattle.flat_design.proofs.PathsApart.{below_apart}
+use Rattle.flat_design.proofs.DistinctPaths.{below_distinct}
 use Rattle.flat_design.proofs.PlaceFacts.{all_from}
 use Rattle.flat_design.proofs.RangeFacts.{map_at}
 use Rattle.flat_design.proofs.TerminalFacts.{zip_at}
@@ -35,15 +35,15 @@ use Rattle.flat_design.proofs.WellFormedPins.{pin_back}
 -- ---- which pin stands at a place
 
 -- no two cells stand at one path
-cells_apart : (modules : List Module) (library : Library) (top : Module) → Apart (λ (cell : PlacedCell). path_of cell.placed) (cells_of modules library top)
-cells_apart modules library top =
-    apart_kept (cell_at modules library) path_of (λ (cell : PlacedCell). path_of cell.placed) (instances_of modules top)
+cells_distinct : (modules : List Module) (library : Library) (top : Module) → Distinct (λ (cell : PlacedCell). path_of cell.placed) (cells_of modules library top)
+cells_distinct modules library top =
+    distinct_kept (cell_at modules library) path_of (λ (cell : PlacedCell). path_of cell.placed) (instances_of modules top)
     (λ placed cell is. ap path_of (cell_parts modules library placed cell (meant modules library placed.instance.kind) refl is).0)
-    (below_apart modules _ (top_spot top))
+    (below_distinct modules _ (top_scope top))
 
 -- no two ports have one name
-ports_apart : (top : Module) → IsWellFormedModule top → Apart (λ (port : Port). port.name) top.ports
-ports_apart top formed i j port other at_i at_j same =
+ports_distinct : (top : Module) → IsWellFormedModule top → Distinct (λ (port : Port). port.name) top.ports
+ports_distinct top formed i j port other at_i at_j same =
     let own : List Wire = formed.ports.0 in
     let one = zip_at IsNetOfPort top.ports own formed.ports.3 i port at_i in
     let two = zip_at IsNetOfPort top.ports own formed.ports.3 j other at_j in
@@ -63,7 +63,7 @@ port_place : (modules : List Module) (library : Library) (top : Module) (place :
     → IsWellFormedModule top → slice_get top.ports i ≡ Some port → place ≡ port_bit port.name index → IsDriving modules library top place → Drives (port_role port.direction)
 port_place modules library top place port index i formed at is driving =
     let own : IsDriving modules library top (port_bit port.name index) = subst (IsDriving modules library top) is driving in
-    let same_place : own.0 ≡ i = ports_apart top formed own.0 i own.1 port own.2 at own.3 in
+    let same_place : own.0 ≡ i = ports_distinct top formed own.0 i own.1 port own.2 at own.3 in
     let same : own.1 ≡ port = one_at top.ports i own.1 port (ap (slice_get top.ports) (sym same_place) ∙ own.2) at in
     inr (ap port_role (sym (ap (λ (p : Port). p.direction) same) ∙ own.4))
 
@@ -72,7 +72,7 @@ cell_place : (modules : List Module) (library : Library) (top : Module) (place :
     → IsDriving modules library top place → Drives (role_in_cell pin.direction)
 cell_place modules library top place cell at i pin cell_is pin_is is driving =
     let own : IsDriving modules library top (pin_of (path_of cell.placed) at) = subst (IsDriving modules library top) is driving in
-    let same_place : own.0 ≡ i = cells_apart modules library top own.0 i own.1 cell own.3 cell_is own.4 in
+    let same_place : own.0 ≡ i = cells_distinct modules library top own.0 i own.1 cell own.3 cell_is own.4 in
     let same : own.1 ≡ cell = one_at (cells_of modules library top) i own.1 cell (ap (slice_get (cells_of modules library top)) (sym same_place) ∙ own.3) cell_is in
     let pin_same : own.2 ≡ pin = one_at cell.kind.pins at own.2 pin (subst (λ (c : PlacedCell). slice_get c.kind.pins at ≡ Some own.2) same own.5) pin_is in
     inl (ap role_in_cell (sym (ap (λ (p : LibPin). p.direction) pin_same) ∙ own.6))
@@ -104,14 +104,14 @@ role_drives design number info role at is (inr port) =
 
 found_drives : (modules : List Module) (library : Library) (top : Module) (design : Design) → IsWellFormedModule top
     → IsFlatDesign library (flat modules library top) design → (net : NetBit) (found : Source)
-    → IsSourceOf (pin_places (flat modules library top)) (feeds_of modules library top) net found → IsDriver design found
+    → IsSourceOf (pin_places (flat modules library top)) (drivers_of modules library top) net found → IsDriver design found
 found_drives modules library top design formed is net source.Nothing from = tt
 found_drives modules library top design formed is net source.Zero from = tt
 found_drives modules library top design formed is net source.One from = tt
 found_drives modules library top design formed is net (source.Pin pin) from =
     let f : Flat = flat modules library top in
     let end : NetBit = from.0 in
-    let ends : EndsIn (pin_places f) (feeds_of modules library top) end (source.Pin pin) = from.2 in
+    let ends : EndsIn (pin_places f) (drivers_of modules library top) end (source.Pin pin) = from.2 in
     let place : PinPlace = ends.0 in
     let driving : IsDriving modules library top place = source_in modules library top end (from_pin place) ends.2 in
     let there = get_map (λ (p : FlatPin). p.place) f.pins pin.0 place ends.1 in

@@ -1,5 +1,5 @@
 -- Rows that are added to others. This project's own words.
--- It reads: behind the old rows stand new ones, one for each of the things, in their order.
+-- It reads: after the old rows stand new ones, one for each of the things, in their order.
 use Rattle.std.specs.Prelude.{◌≡◌, ◌++◌, List}
 use Rattle.std.specs.List.{AllZip}
 

@@ -4,9 +4,9 @@ use Rattle.std.specs.Prelude.{Result, Ok, Err}
 use Rattle.sdc_base.specs.declared.memory.At.{At}
 use Rattle.timing_types.specs.declared.designs.Design.{Design}
 use Rattle.source_types.specs.declared.fault_kinds.DesignKind.{DesignKind}
-use Rattle.sdc_model.specs.FlatDesign.{IsFlatDesign}
-use Rattle.sdc_model.specs.Flattening.{FirstByName, FirstOfCells, NoneOfCells, NoneOfNets}
-use Rattle.flat_design.specs.declared.hierarchy.Hierarchy.{Hierarchy}
+use Rattle.flat_model.specs.FlatDesign.{IsFlatDesign}
+use Rattle.flat_model.specs.Flattening.{FirstByName, FirstOfCells, NoneOfCells, NoneOfNets}
+use Rattle.flat_design.specs.declared.elaborate.hierarchy.Hierarchy.{Hierarchy}
 use Rattle.flat_design.specs.NamedFaults.{flat_of}
 
 -- no cell has a fault, and this is the flat design; or the first fault of a cell

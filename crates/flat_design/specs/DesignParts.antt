@@ -4,7 +4,7 @@ use Rattle.std.specs.List.{zip}
 use Rattle.timing_types.specs.declared.designs.NetInfo.{NetInfo}
 use Rattle.timing_types.specs.declared.designs.PinInfo.{PinInfo}
 use Rattle.timing_types.specs.declared.designs.Source.{Source}
-use Rattle.flat_design.specs.declared.pin_rows.PinRow.{PinRow}
+use Rattle.flat_design.specs.declared.assemble.pin_rows.PinRow.{PinRow}
 
 abbrev pub net_info : List ℕ × Source → NetInfo
 net_info pair = record { name = pair.0; source = pair.1 }

@@ -5,7 +5,7 @@ use Rattle.source_types.specs.declared.netlists.Bit.{Bit}
 use Rattle.indexmap.specs.IndexMap.{IndexMap, get_by}
 use Rattle.std.specs.Str.{bytes_eq}
 use Rattle.source_types.specs.declared.netlists.Link.{Link}
-use Rattle.sdc_model.specs.Connections.{Terminal, fits, link_fits}
+use Rattle.flat_model.specs.Connections.{Terminal, fits, link_fits}
 use Rattle.flat_design.specs.Names.{place_of}
 use denote.Ref.{Bor}
 

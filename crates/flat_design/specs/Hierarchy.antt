@@ -2,41 +2,41 @@
 -- It reads: the rows are those of the design.
 use Rattle.std.specs.Prelude.{◌≡◌, ◌++◌, ℕ, List, [], map, codes, slice_get, Option, Some}
 use Rattle.std.specs.List.{flat_map}
-use Rattle.source_types.specs.declared.library_cells.LibPin.{LibPin}
+use Rattle.pin_types.specs.declared.library_cells.LibPin.{LibPin}
 use Rattle.source_types.specs.declared.netlists.Port.{Port}
 use Rattle.source_types.specs.declared.netlists.Range.{Range}
 use Rattle.source_types.specs.declared.netlists.Wire.{Wire}
-use Rattle.sdc_model.specs.FlatDesign.{FlatPin, flat}
-use Rattle.sdc_model.specs.FlatNets.{bit_name}
-use Rattle.sdc_model.specs.Instances.{PlacedCell, Spot, cells_of, full_name, spots_of}
-use Rattle.sdc_model.specs.Ranges.{indices}
-use Rattle.sdc_model.specs.WellFormedDesign.{AreDistinct}
-use Rattle.sdc_model.specs.WellFormedNetlist.{IsWellFormedModule}
-use Rattle.flat_design.specs.declared.hierarchy.Hierarchy.{Hierarchy}
-use Rattle.flat_design.specs.Layout.{IsLayout}
+use Rattle.flat_model.specs.FlatDesign.{FlatPin, flat}
+use Rattle.flat_model.specs.FlatNets.{bit_name}
+use Rattle.flat_model.specs.Instances.{PlacedCell, ModuleInstance, cells_of, full_name, scopes_of}
+use Rattle.netlist_model.specs.Ranges.{indices}
+use Rattle.text_model.specs.Names.{AreDistinct}
+use Rattle.netlist_model.specs.WellFormedNetlist.{IsWellFormedModule}
+use Rattle.flat_design.specs.declared.elaborate.hierarchy.Hierarchy.{Hierarchy}
+use Rattle.flat_design.specs.Elaboration.{IsElaboration}
 
--- in each module where it stands, names tell nets apart
-abbrev pub HaveDistinctNets : List Spot → Type 0
-HaveDistinctNets spots =
-    (place : ℕ) (spot : Spot) → slice_get spots place ≡ Some spot → AreDistinct (map (λ (net : Wire). net.name) spot.body.nets)
+-- in each module instance, nets are distinct by their names
+abbrev pub HaveDistinctNets : List ModuleInstance → Type 0
+HaveDistinctNets scopes =
+    (place : ℕ) (scope : ModuleInstance) → slice_get scopes place ≡ Some scope → AreDistinct (map (λ (net : Wire). net.name) scope.body.nets)
 
--- each module where it stands is well-formed
-abbrev pub AreFormed : List Spot → Type 0
-AreFormed spots = (place : ℕ) (spot : Spot) → slice_get spots place ≡ Some spot → IsWellFormedModule spot.body
+-- each module instance is well-formed
+abbrev pub AreFormed : List ModuleInstance → Type 0
+AreFormed scopes = (place : ℕ) (scope : ModuleInstance) → slice_get scopes place ≡ Some scope → IsWellFormedModule scope.body
 
 pub record IsHierarchy (design : Hierarchy) : Type 0 where
-  pub layout : IsLayout design.modules.now design.library.now design.top.now design.layout
-  pub distinct : HaveDistinctNets (spots_of design.modules.now design.top.now)
-  pub formed : AreFormed (spots_of design.modules.now design.top.now)
+  pub elaboration : IsElaboration design.modules.now design.library.now design.top.now design.elaboration
+  pub distinct : HaveDistinctNets (scopes_of design.modules.now design.top.now)
+  pub formed : AreFormed (scopes_of design.modules.now design.top.now)
 
-abbrev pub spots_in : Hierarchy → List Spot
-spots_in design = spots_of design.modules.now design.top.now
+abbrev pub scopes_in : Hierarchy → List ModuleInstance
+scopes_in design = scopes_of design.modules.now design.top.now
 
 abbrev pub cells_in : Hierarchy → List PlacedCell
 cells_in design = cells_of design.modules.now design.library.now design.top.now
 
-abbrev pub prefix_in : Spot → List ℕ
-prefix_in spot = spot.prefix
+abbrev pub prefix_in : ModuleInstance → List ℕ
+prefix_in scope = scope.prefix
 
 -- the names of the bits of a net or a port in a module with a prefix
 abbrev pub bit_names : List ℕ → List ℕ → Option Range → List (List ℕ)

@@ -3,14 +3,14 @@ pub mod Building
 pub mod Connected
 pub mod Cycles
 pub mod DesignParts
+pub mod Drivers
+pub mod Elaborating
+pub mod Elaboration
 pub mod EmptyDesign
 pub mod Ends
 pub mod Expansion
-pub mod Feeds
 pub mod Fitting
 pub mod Hierarchy
-pub mod LayingOut
-pub mod Layout
 pub mod NamedFaults
 pub mod Names
 pub mod NetEnds

@@ -4,19 +4,19 @@ use Rattle.std.specs.Prelude.{◌≡◌, ◌≤◌, ◌<◌, ◌+◌, ℕ, Bool,
 use Rattle.sdc_base.specs.declared.memory.At.{At}
 use Rattle.source_types.specs.declared.fault_kinds.DesignKind.{DesignKind}
 use Rattle.source_types.specs.declared.fault_kinds.DesignKind.TheVariants as fault
-use Rattle.source_types.specs.declared.library_cells.LibPin.{LibPin}
-use Rattle.sdc_model.specs.FlatDesign.{ComesBack, Flat, flat}
-use Rattle.sdc_model.specs.FlatFaults.{is_among, rank}
-use Rattle.sdc_model.specs.FlatNets.{NetBit, sources}
-use Rattle.sdc_model.specs.Flattening.{FirstOfCells, FirstOfNets, NoneOfCells, NoneOfNets}
-use Rattle.sdc_model.specs.WellFormedDesign.{is_good_name}
-use Rattle.flat_design.specs.declared.feeds.FeedRow.{FeedRow}
-use Rattle.flat_design.specs.declared.hierarchy.Hierarchy.{Hierarchy}
-use Rattle.flat_design.specs.declared.name_marks.NameMarks.{NameMarks}
-use Rattle.flat_design.specs.Hierarchy.{spots_in}
+use Rattle.pin_types.specs.declared.library_cells.LibPin.{LibPin}
+use Rattle.flat_model.specs.FlatDesign.{ComesBack, Flat, flat}
+use Rattle.flat_model.specs.FlatFaults.{is_among, rank}
+use Rattle.flat_model.specs.FlatNets.{NetBit, sources}
+use Rattle.flat_model.specs.Flattening.{FirstOfCells, FirstOfNets, NoneOfCells, NoneOfNets}
+use Rattle.text_model.specs.Names.{is_good_name}
+use Rattle.flat_design.specs.declared.drivers.driver_edges.DriverEdge.{DriverEdge}
+use Rattle.flat_design.specs.declared.elaborate.hierarchy.Hierarchy.{Hierarchy}
+use Rattle.flat_design.specs.declared.names.name_marks.NameMarks.{NameMarks}
+use Rattle.flat_design.specs.Hierarchy.{scopes_in}
 use Rattle.flat_design.specs.NetNumbers.{IsNumber}
 use Rattle.flat_design.specs.Repeats.{AreRepeats}
-use Rattle.flat_design.specs.Sources.{Returns, fed, has_two}
+use Rattle.flat_design.specs.Sources.{Returns, driven_by, has_two}
 
 abbrev pub flat_of : Hierarchy → Flat
 flat_of design = flat design.modules.now design.library.now design.top.now
@@ -68,16 +68,16 @@ HasUnnamed pins = (at : ℕ) × (pin : LibPin) × (slice_get pins at ≡ Some pi
 -- ---- nets, by their numbers
 
 -- an earlier net has the net's name; the name is bad; it has two sources; following sources can come back to it
-abbrev pub NumberHas : List (List ℕ) → List FeedRow → ℕ → List ℕ → DesignKind → Type 0
+abbrev pub NumberHas : List (List ℕ) → List DriverEdge → ℕ → List ℕ → DesignKind → Type 0
 NumberHas names rows net name fault.DoubleName = is_among (take net names) name ≡ true
 NumberHas names rows net name fault.BadName = is_good_name name ≡ false
 NumberHas names rows net name fault.TwoDrivers = has_two rows net ≡ true
 NumberHas names rows net name fault.AssignCycle = Returns rows net
 NumberHas names rows net name _ = ⊥
 
--- rows say of each net what the feeds of a design say: how many sources it has, and whether following them can come
+-- rows say of each net what the drivers of a design say: how many sources it has, and whether following them can come
 -- back
-pub record AreSourcesOf (design : Hierarchy) (rows : List FeedRow) : Type 0 where
-  pub count : (net : ℕ) (bit : NetBit) → IsNumber (spots_in design) net bit → length (sources (flat_of design).feeds bit) ≡ length (fed rows net)
-  pub there : (net : ℕ) (bit : NetBit) → IsNumber (spots_in design) net bit → Returns rows net → ComesBack (flat_of design).feeds bit
-  pub back : (net : ℕ) (bit : NetBit) → IsNumber (spots_in design) net bit → ComesBack (flat_of design).feeds bit → Returns rows net
+pub record AreSourcesOf (design : Hierarchy) (rows : List DriverEdge) : Type 0 where
+  pub count : (net : ℕ) (bit : NetBit) → IsNumber (scopes_in design) net bit → length (sources (flat_of design).drivers bit) ≡ length (driven_by rows net)
+  pub there : (net : ℕ) (bit : NetBit) → IsNumber (scopes_in design) net bit → Returns rows net → ComesBack (flat_of design).drivers bit
+  pub back : (net : ℕ) (bit : NetBit) → IsNumber (scopes_in design) net bit → ComesBack (flat_of design).drivers bit → Returns rows net

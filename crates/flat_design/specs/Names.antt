@@ -4,8 +4,8 @@ use Rattle.std.specs.Prelude.{◌≡◌, ℕ, suc, Bool, not, List, [], ◌∷�
 use Rattle.indexmap.specs.IndexMap.{IndexMap, get_by}
 use Rattle.std.specs.List.{list_all}
 use Rattle.std.specs.Str.{bytes_eq}
-use Rattle.sdc_model.specs.WellFormedDesign.{is_bad_byte}
-use Rattle.sdc_model.specs.Words.{same_text}
+use Rattle.text_model.specs.Names.{is_bad_byte}
+use Rattle.text_model.specs.Words.{same_text}
 use denote.Ref.{Bor}
 
 abbrev pub next_place : Option ℕ → Option ℕ

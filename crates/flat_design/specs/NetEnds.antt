@@ -8,34 +8,34 @@ use Rattle.sdc_base.specs.declared.memory.Stop.{Stop}
 use Rattle.sdc_base.specs.declared.memory.Stop.TheVariants as stop
 use Rattle.timing_types.specs.declared.designs.Source.{Source}
 use Rattle.source_types.specs.declared.fault_kinds.DesignKind.{DesignKind}
-use Rattle.sdc_model.specs.Flattening.{FirstOfNets, NoneOfNets}
-use Rattle.flat_design.specs.declared.feeds.FeedRow.{FeedRow}
-use Rattle.flat_design.specs.declared.hierarchy.Hierarchy.{Hierarchy}
-use Rattle.flat_design.specs.declared.source_table.SourceTable.{SourceTable}
+use Rattle.flat_model.specs.Flattening.{FirstOfNets, NoneOfNets}
+use Rattle.flat_design.specs.declared.drivers.driver_edges.DriverEdge.{DriverEdge}
+use Rattle.flat_design.specs.declared.elaborate.hierarchy.Hierarchy.{Hierarchy}
+use Rattle.flat_design.specs.declared.drivers.source_table.SourceTable.{SourceTable}
 use Rattle.flat_design.specs.Ends.{HaveEnds}
-use Rattle.flat_design.specs.Feeds.{IsFeed}
+use Rattle.flat_design.specs.Drivers.{IsDriverEdge}
 use Rattle.flat_design.specs.NamedFaults.{flat_of}
 use Rattle.flat_design.specs.PinRows as pins
 use Rattle.flat_design.specs.Sources.{Returns, has_two}
 use Rattle.flat_design.specs.SourceTable.{IsLinked}
 
--- a table of all that feeds the nets of a design
+-- a table of all that drives the nets of a design
 pub record IsTableOf (design : Hierarchy) (table : SourceTable) : Type 0 where
-  pub rows : AllZip (IsFeed design) (flat_of design).feeds table.rows.now
-  pub nets : length table.last ≡ design.layout.nets
+  pub rows : AllZip (IsDriverEdge design) (flat_of design).drivers table.rows.now
+  pub nets : length table.last ≡ design.elaboration.nets
   pub linked : IsLinked table
 
 -- whether one of so many nets has two sources
-abbrev pub TellsTwo : List FeedRow → ℕ → Bool → Type 0
+abbrev pub TellsTwo : List DriverEdge → ℕ → Bool → Type 0
 TellsTwo rows nets true = (net : ℕ) × (net < nets) × (has_two rows net ≡ true)
 TellsTwo rows nets false = (net : ℕ) → net < nets → has_two rows net ≡ false
 
 -- one of so many nets has two sources, or following them can come back to it
-abbrev pub IsFaulty : List FeedRow → ℕ → Type 0
+abbrev pub IsFaulty : List DriverEdge → ℕ → Type 0
 IsFaulty rows nets = (net : ℕ) × (net < nets) × ((has_two rows net ≡ true) ⊎ Returns rows net)
 
 -- each net has its end, or one of them has a fault by its sources
-abbrev pub AreFound : List FeedRow → ℕ → Option (List Source) → Type 0
+abbrev pub AreFound : List DriverEdge → ℕ → Option (List Source) → Type 0
 AreFound rows nets None = IsFaulty rows nets
 AreFound rows nets (Some ends) = HaveEnds rows nets ends
 

@@ -3,11 +3,11 @@
 use Rattle.std.specs.Prelude.{◌≡◌, ℕ, List, [], ◌∷◌, map, slice_get, Some}
 use Rattle.std.specs.List.{flat_map}
 use Rattle.source_types.specs.declared.netlists.Wire.{Wire}
-use Rattle.sdc_model.specs.FlatNets.{NetBit, bit_of, nets_in}
-use Rattle.sdc_model.specs.Instances.{Spot}
-use Rattle.sdc_model.specs.Ranges.{width}
-use Rattle.flat_design.specs.declared.net_numbers.NetTable.{NetTable}
-use Rattle.flat_design.specs.Layout.{capped}
+use Rattle.flat_model.specs.FlatNets.{NetBit, bit_of, nets_in}
+use Rattle.flat_model.specs.Instances.{ModuleInstance}
+use Rattle.netlist_model.specs.Ranges.{width}
+use Rattle.flat_design.specs.declared.drivers.net_numbers.NetTable.{NetTable}
+use Rattle.flat_design.specs.Elaboration.{capped}
 use Rattle.flat_design.specs.Names.{IsTable}
 
 -- the numbers of the first bits of nets, from a number on
@@ -22,5 +22,5 @@ pub record IsNetTable (nets : List Wire) (found : NetTable) : Type 0 where
   pub places : IsTable found.places (net_names nets)
   pub starts : found.starts ≡ net_starts 0 nets
 
-abbrev pub IsNumber : List Spot → ℕ → NetBit → Type 0
-IsNumber spots number bit = slice_get (map bit_of (flat_map nets_in spots)) number ≡ Some bit
+abbrev pub IsNumber : List ModuleInstance → ℕ → NetBit → Type 0
+IsNumber scopes number bit = slice_get (map bit_of (flat_map nets_in scopes)) number ≡ Some bit

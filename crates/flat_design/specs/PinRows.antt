@@ -4,12 +4,12 @@
 use Rattle.std.specs.Prelude.{◌≡◌, ℕ, Bool, true, false, List, length, slice_get, Option, Some, None}
 use Rattle.timing_types.specs.declared.designs.Source.{Source}
 use Rattle.timing_types.specs.declared.designs.Source.TheVariants as source
-use Rattle.sdc_model.specs.FlatDesign.{FlatPin, IsDriverOf, IsSourceOf, pin_places}
-use Rattle.sdc_model.specs.FlatNets.{NetBit, Origin}
-use Rattle.flat_design.specs.declared.hierarchy.Hierarchy.{Hierarchy}
-use Rattle.flat_design.specs.declared.pin_rows.PinRow.{PinRow}
+use Rattle.flat_model.specs.FlatDesign.{FlatPin, IsDriverOf, IsSourceOf, pin_places}
+use Rattle.flat_model.specs.FlatNets.{NetBit, Origin}
+use Rattle.flat_design.specs.declared.elaborate.hierarchy.Hierarchy.{Hierarchy}
+use Rattle.flat_design.specs.declared.assemble.pin_rows.PinRow.{PinRow}
 use Rattle.flat_design.specs.AddedRows.{AddsRows}
-use Rattle.flat_design.specs.Hierarchy.{spots_in}
+use Rattle.flat_design.specs.Hierarchy.{scopes_in}
 use Rattle.flat_design.specs.NamedFaults.{flat_of}
 use Rattle.flat_design.specs.NetNumbers.{IsNumber}
 
@@ -17,9 +17,9 @@ use Rattle.flat_design.specs.NetNumbers.{IsNumber}
 
 -- the sources of nets by their numbers
 pub record AreEnds (design : Hierarchy) (ends : List Source) : Type 0 where
-  pub count : length ends ≡ design.layout.nets
-  pub each : (number : ℕ) (bit : NetBit) (end : Source) → IsNumber (spots_in design) number bit → slice_get ends number ≡ Some end
-      → IsSourceOf (pin_places (flat_of design)) (flat_of design).feeds bit end
+  pub count : length ends ≡ design.elaboration.nets
+  pub each : (number : ℕ) (bit : NetBit) (end : Source) → IsNumber (scopes_in design) number bit → slice_get ends number ≡ Some end
+      → IsSourceOf (pin_places (flat_of design)) (flat_of design).drivers bit end
 
 -- a load is driven by this
 pub record IsDriven (design : Hierarchy) (load : Option Origin) (driver : Source) : Type 0 where

@@ -1,6 +1,6 @@
 -- Which names of a list stand before in it. This project's own words.
 use Rattle.std.specs.Prelude.{◌≡◌, ℕ, Bool, List, length, take, slice_get, Some}
-use Rattle.sdc_model.specs.FlatFaults.{is_among}
+use Rattle.flat_model.specs.FlatFaults.{is_among}
 
 -- of each name, whether an earlier one is the same
 pub record AreRepeats (names : List (List ℕ)) (repeats : List Bool) : Type 0 where

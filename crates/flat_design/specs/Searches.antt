@@ -2,13 +2,13 @@
 -- It reads: nets that were reached are marked, and those of them that are left are listed.
 use Rattle.std.specs.Prelude.{◌≡◌, ◌+◌, ◌==◌, ◌||◌, ◌&&◌, ℕ, Bool, true, false, not, List, [], get_or, length}
 use Rattle.std.specs.List.{count_by, list_any}
-use Rattle.flat_design.specs.declared.feeds.FeedRow.{FeedRow}
-use Rattle.flat_design.specs.declared.feeds.Feeder.{Feeder}
-use Rattle.flat_design.specs.declared.feeds.Feeder.TheVariants as feeder
-use Rattle.flat_design.specs.declared.returning.Search.{Search}
+use Rattle.flat_design.specs.declared.drivers.driver_edges.DriverEdge.{DriverEdge}
+use Rattle.flat_design.specs.declared.drivers.driver_edges.Driver.{Driver}
+use Rattle.flat_design.specs.declared.drivers.driver_edges.Driver.TheVariants as driver
+use Rattle.flat_design.specs.declared.drivers.returning.Search.{Search}
 use Rattle.flat_design.specs.Sources.{Returns}
 
-abbrev pub TellsReturn : List FeedRow → ℕ → Bool → Type 0
+abbrev pub TellsReturn : List DriverEdge → ℕ → Bool → Type 0
 TellsReturn rows net true = Returns rows net
 TellsReturn rows net false = Returns rows net → ⊥
 
@@ -30,13 +30,13 @@ to_search search = count_by not search.reached.items + length search.left.items
 
 -- ---- sources
 
-abbrev pub is_net : ℕ → Feeder → Bool
-is_net net (feeder.Net other) = other == net
-is_net net (feeder.Value value) = false
-is_net net (feeder.Pin pin) = false
+abbrev pub is_net : ℕ → Driver → Bool
+is_net net (driver.Net other) = other == net
+is_net net (driver.Value value) = false
+is_net net (driver.Pin pin) = false
 
-abbrev pub has_net : List Feeder → ℕ → Bool
-has_net sources net = list_any (λ (source : Feeder). is_net net source) sources
+abbrev pub has_net : List Driver → ℕ → Bool
+has_net sources net = list_any (λ (source : Driver). is_net net source) sources
 
 -- ---- steps of a search: the nets that `says` tells are reached, and those of them are left that were not before
 pub record ReachesMore (says : ℕ → Bool) (old new : Search) : Type 0 where

@@ -3,11 +3,11 @@
 -- may have; an order of modules gives each its size by those of the modules that it instantiates.
 use Rattle.std.specs.Prelude.{◌||◌, ◌<◌, ℕ, Bool, List, [], ◌∷◌, length, get_or, nat_lt, replicate, set, slice_get, Option, Some, None}
 use Rattle.source_types.specs.declared.libraries.Library.{Library}
-use Rattle.source_types.specs.declared.library_cells.LibCell.{LibCell}
-use Rattle.flat_design.specs.declared.sizes.Size.{Size}
-use Rattle.flat_design.specs.declared.walk.Step.{Step}
-use Rattle.flat_design.specs.declared.walk.Step.TheVariants as step
-use Rattle.flat_design.specs.Layout.{capped}
+use Rattle.pin_types.specs.declared.library_cells.LibCell.{LibCell}
+use Rattle.flat_design.specs.declared.elaborate.sizes.Size.{Size}
+use Rattle.flat_design.specs.declared.elaborate.walk.Step.{Step}
+use Rattle.flat_design.specs.declared.elaborate.walk.Step.TheVariants as step
+use Rattle.flat_design.specs.Elaboration.{capped}
 use Rattle.flat_design.specs.Walk.{steps_of}
 
 -- an instance of a library cell is of one that there is
@@ -56,7 +56,7 @@ module_size library sizes nets steps = with_steps library sizes (record { instan
 abbrev pub with_size : Library → List (List Step) → List ℕ → List Size → ℕ → List Size
 with_size library all counts sizes m = set sizes m (module_size library sizes (get_or counts m 0) (steps_of all m))
 
--- modules have their sizes one behind the other
+-- modules have their sizes one after the other
 abbrev pub sizes_along : Library → List (List Step) → List ℕ → List Size → List ℕ → List Size
 sizes_along library all counts sizes [] = sizes
 sizes_along library all counts sizes (m ∷ rest) = sizes_along library all counts (with_size library all counts sizes m) rest

@@ -4,14 +4,14 @@ use Rattle.std.specs.Prelude.{ℕ, Bool, false, List, map, unwrap_or, Option, So
 use Rattle.source_types.specs.declared.fault_kinds.DesignKind.{DesignKind}
 use Rattle.source_types.specs.declared.fault_kinds.DesignKind.TheVariants as fault
 use Rattle.source_types.specs.declared.libraries.Library.{Library}
-use Rattle.source_types.specs.declared.library_cells.LibCell.{LibCell}
+use Rattle.pin_types.specs.declared.library_cells.LibCell.{LibCell}
 use Rattle.source_types.specs.declared.netlists.Instance.{Instance}
 use Rattle.source_types.specs.declared.netlists.Links.{Links}
 use Rattle.source_types.specs.declared.netlists.Module.{Module}
-use Rattle.sdc_model.specs.Connections.{cell_fault, links_fit, ports_of}
-use Rattle.sdc_model.specs.Instances.{cell_named, module_named}
-use Rattle.flat_design.specs.declared.walk.Step.{Step}
-use Rattle.flat_design.specs.declared.walk.Step.TheVariants as step
+use Rattle.flat_model.specs.Connections.{cell_fault, links_fit, ports_of}
+use Rattle.flat_model.specs.Instances.{cell_named, module_named}
+use Rattle.flat_design.specs.declared.elaborate.walk.Step.{Step}
+use Rattle.flat_design.specs.declared.elaborate.walk.Step.TheVariants as step
 use Rattle.flat_design.specs.Names.{place_of}
 
 abbrev pub module_names : List Module → List (List ℕ)

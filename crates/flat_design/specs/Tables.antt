@@ -4,9 +4,9 @@ use Rattle.std.specs.Prelude.{◌≡◌, List}
 use Rattle.std.specs.List.{AllZip}
 use Rattle.source_types.specs.declared.libraries.Library.{Library}
 use Rattle.source_types.specs.declared.netlists.Module.{Module}
-use Rattle.sdc_model.specs.Connections.{Terminal, names_of, pins_of, ports_of}
-use Rattle.flat_design.specs.declared.steps.Tables.{Tables}
-use Rattle.flat_design.specs.declared.terminals.Terminals.{Terminals}
+use Rattle.flat_model.specs.Connections.{Terminal, names_of, pins_of, ports_of}
+use Rattle.flat_design.specs.declared.elaborate.steps.Tables.{Tables}
+use Rattle.flat_design.specs.declared.elaborate.terminals.Terminals.{Terminals}
 use Rattle.flat_design.specs.Fitting.{widths_of}
 use Rattle.flat_design.specs.Names.{IsTable}
 use Rattle.flat_design.specs.Steps.{cell_names, module_names}

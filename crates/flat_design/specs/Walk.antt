@@ -5,14 +5,14 @@ use Rattle.std.specs.Prelude.{◌≡◌, ◌++◌, ◌+◌, ◌<◌, ◌==◌, �
 use Rattle.std.specs.List.{AllByRecursion, list_any}
 use Rattle.source_types.specs.declared.fault_kinds.DesignKind.{DesignKind}
 use Rattle.source_types.specs.declared.fault_kinds.DesignKind.TheVariants as fault
-use Rattle.flat_design.specs.declared.walk.FaultAt.{FaultAt}
-use Rattle.flat_design.specs.declared.walk.Frame.{Frame}
-use Rattle.flat_design.specs.declared.walk.Halt.{Halt}
-use Rattle.flat_design.specs.declared.walk.Halt.TheVariants as halt
-use Rattle.flat_design.specs.declared.walk.Mark.{Mark}
-use Rattle.flat_design.specs.declared.walk.Mark.TheVariants as mark
-use Rattle.flat_design.specs.declared.walk.Step.{Step}
-use Rattle.flat_design.specs.declared.walk.Step.TheVariants as step
+use Rattle.flat_design.specs.declared.elaborate.walk.FaultAt.{FaultAt}
+use Rattle.flat_design.specs.declared.elaborate.walk.Frame.{Frame}
+use Rattle.flat_design.specs.declared.elaborate.walk.Halt.{Halt}
+use Rattle.flat_design.specs.declared.elaborate.walk.Halt.TheVariants as halt
+use Rattle.flat_design.specs.declared.elaborate.walk.Mark.{Mark}
+use Rattle.flat_design.specs.declared.elaborate.walk.Mark.TheVariants as mark
+use Rattle.flat_design.specs.declared.elaborate.walk.Step.{Step}
+use Rattle.flat_design.specs.declared.elaborate.walk.Step.TheVariants as step
 
 -- ---- faults
 
@@ -69,7 +69,7 @@ IsOf before (step.Fault kind) = ⊥
 IsOf before (step.Cell kind) = Unit {0}
 IsOf before (step.Enter entered fits) = (fits ≡ true) × (is_in before entered ≡ true)
 
--- modules stand each once, behind those that they instantiate
+-- modules stand each once, after those that they instantiate
 abbrev pub AreOrdered : List (List Step) → List ℕ → Type 0
 AreOrdered all order = (place m : ℕ) → slice_get order place ≡ Some m
     → (m < length all) × (is_in (take place order) m ≡ false) × AllByRecursion (IsOf (take place order)) (steps_of all m)

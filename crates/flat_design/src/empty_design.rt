@@ -1,12 +1,12 @@
 //! The design without a pin.
 
 ghost use Rattle.std.specs.Prelude.{◌≡◌, IfOk, Ok};
-ghost use Rattle.sdc_model.specs.WellFormedDesign.{IsWellFormedDesign};
+ghost use Rattle.design_model.specs.WellFormedDesign.{IsWellFormedDesign};
 ghost use Rattle.flat_design.specs.EmptyDesign.{empty_design};
 
 use sdc_base::{List, NoMemory, Text};
-use sdc_model::Design;
 use std::alloc::Global;
+use timing_types::Design;
 
 /// Femtoseconds in a nanosecond, the unit of the design without a pin.
 const NANOSECOND: i64 = 1_000_000;

@@ -5,55 +5,14 @@
 //! arcs to the timing graph.
 #![tactic(auto)]
 
-mod all_feeds;
-mod boundary_feeds;
-mod building;
-mod cell_connections;
-mod cell_faults;
-mod cell_feeds;
-mod cell_pins;
-mod connected;
-mod connections;
-mod counts;
-mod cycles;
-mod design;
-mod design_cells;
-mod design_nets;
-mod design_pins;
+mod assemble;
 mod drivers;
+mod elaborate;
 mod empty_design;
-mod ends;
-mod expansion;
-mod feeds;
 mod flattening;
-mod full_names;
-mod hierarchy;
-mod instances;
 mod items;
-mod layout;
-mod name_marks;
-mod named;
-mod net_ends;
-mod net_faults;
-mod net_lines;
-mod net_numbers;
-mod object_names;
-mod output_feeds;
-mod pin_names;
-mod pin_rows;
-mod port_feeds;
-mod port_pins;
+mod names;
 mod ranges;
-mod repeated;
-mod returning;
-mod sizes;
-mod source_table;
-mod spot_feeds;
-mod steps;
-mod terminals;
-mod tie_feeds;
-mod top_feeds;
-mod walk;
 
 pub use empty_design::empty;
 pub use flattening::flatten;

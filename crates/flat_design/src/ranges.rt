@@ -1,9 +1,9 @@
 //! The bits of ranges (IEEE 1364-2005, vectors).
 
 ghost use Rattle.std.specs.Prelude.{◌≡◌, ◌<◌, slice_get, Some};
-ghost use Rattle.sdc_model.specs.Ranges.{from_to, indices, span, width};
+ghost use Rattle.netlist_model.specs.Ranges.{from_to, indices, span, width};
 
-use sdc_model::Range;
+use source_types::Range;
 
 /// The number of bits of a net or a port.
 pub(crate) fn width(range: Option<Range>) -> u64

@@ -2,11 +2,11 @@
 
 ghost use Rattle.std.specs.Prelude.{◌≡◌, ◌≤◌, ◌<◌, IfOk};
 ghost use Rattle.std.specs.Int.{bit_at};
-ghost use Rattle.sdc_model.specs.FunctionValue.{pins_are_below};
+ghost use Rattle.function_model.specs.FunctionValue.{pins_are_below};
 
-use bool_lanes::{Known, Names, Table, parse};
+use bool_lanes::{Known, Names, Table, parse_prepared};
+use pin_types::Expr;
 use sdc_base::{List, NoMemory, Stop, Text};
-use sdc_model::Expr;
 use std::alloc::Global;
 use std::process::Abort;
 use std::test::Fail;
@@ -35,7 +35,7 @@ fn function_of(alloc: Global, text: &str) -> Result<Expr, NoMemory> {
         return Ok(Expr::Zero);
     }
     let names = Names::new(alloc, names)?;
-    match parse(alloc, text, &names) {
+    match parse_prepared(alloc, text, &names) {
         Ok(Some(expr)) => Ok(expr),
         Ok(None) | Err(Stop::Refused(_)) => Ok(Expr::Zero),
         Err(Stop::NoMemory) => Err(NoMemory),

@@ -1,8 +1,8 @@
 //! Functions as they stand in libraries, with the expressions that a reader of Liberty's rules groups by hand.
 
-use bool_lanes::{Names, parse};
+use bool_lanes::parse;
+use pin_types::Expr;
 use sdc_base::{List, NoMemory, Stop, Text};
-use sdc_model::Expr;
 use std::alloc::Global;
 use std::process::Abort;
 use std::test::Fail;
@@ -58,7 +58,6 @@ fn show_parse(alloc: Global, text: &str, names: &str) -> Result<String, NoMemory
     if names.len() > 60_001 {
         return Ok(shown);
     }
-    let names = Names::new(alloc, names)?;
     match parse(alloc, text, &names) {
         Ok(Some(expr)) => show_expr(alloc, &mut shown, &expr)?,
         Ok(None) => shown.push_str("none")?,
@@ -182,7 +181,7 @@ fn wrapped(
     times: usize,
     before: &str,
     inner: &str,
-    behind: &str,
+    after: &str,
 ) -> Result<String, NoMemory> {
     let mut text = String::new(alloc);
     for _ in 0..times {
@@ -190,7 +189,7 @@ fn wrapped(
     }
     text.push_str(inner)?;
     for _ in 0..times {
-        text.push_str(behind)?;
+        text.push_str(after)?;
     }
     Ok(text)
 }

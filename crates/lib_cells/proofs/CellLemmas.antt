@@ -1,15 +1,15 @@
 -- A cell by what is known of it.
 use Rattle.std.proofs.Common.{◌≡◌, ◌∙◌, ◌||◌, ◌&&◌, ◌++◌, ◌+◌, ◌≤◌, ℕ, suc, Bool, true, false, cond, List, [], ◌∷◌, filter, length, length-append, map, not, Option, Some, None, Result, Ok, Err, refl, sym, ap, arith}
 use Rattle.std.specs.List.{filter_map, fold, list_any}
-use Rattle.source_types.specs.declared.functions.Expr.{Expr}
+use Rattle.pin_types.specs.declared.functions.Expr.{Expr}
 use Rattle.source_types.specs.declared.kinds.LibKind.{LibKind}
-use Rattle.source_types.specs.declared.library_cells.LibArc.{LibArc}
-use Rattle.source_types.specs.declared.library_cells.LibCell.{LibCell}
-use Rattle.source_types.specs.declared.library_cells.LibCheck.{LibCheck}
-use Rattle.source_types.specs.declared.library_cells.LibPin.{LibPin}
-use Rattle.sdc_model.specs.LibertyArcs as liberty
-use Rattle.sdc_model.specs.LibertyCells as cells
-use Rattle.sdc_model.specs.LibertyStatements.{Member}
+use Rattle.pin_types.specs.declared.library_cells.LibArc.{LibArc}
+use Rattle.pin_types.specs.declared.library_cells.LibCell.{LibCell}
+use Rattle.pin_types.specs.declared.library_cells.LibCheck.{LibCheck}
+use Rattle.pin_types.specs.declared.library_cells.LibPin.{LibPin}
+use Rattle.library_model.specs.LibertyArcs as liberty
+use Rattle.library_model.specs.LibertyCells as cells
+use Rattle.library_model.specs.LibertyStatements.{Member}
 use Rattle.lib_cells.specs.CellFacts.{Describes}
 use Rattle.lib_cells.specs.CellValues.{has_wide, pin_value, refused}
 use Rattle.lib_cells.specs.FunctionNames.{function_value, is_wide_text, names_of, placed_if}

@@ -1,9 +1,9 @@
 -- Numbers that are found by names: of cells, and which names have one.
 use Rattle.std.proofs.Common.{◌≡◌, ◌∙◌, ◌+◌, ◌||◌, ℕ, Bool, true, false, cond, List, [], ◌∷◌, Option, Some, None, refl, sym, ap}
 use Rattle.std.specs.Option.{is_some}
-use Rattle.sdc_model.specs.LibertyCells.{name_of}
-use Rattle.sdc_model.specs.LibertyStatements.{Member}
-use Rattle.sdc_model.specs.Words.{is_among, same_text}
+use Rattle.library_model.specs.LibertyCells.{name_of}
+use Rattle.library_model.specs.LibertyStatements.{Member}
+use Rattle.text_model.specs.Words.{is_among, same_text}
 use Rattle.bool_lanes.specs.NamedNumbers.{least, number_at, number_if, place_from}
 use Rattle.bool_lanes.specs.declared.numbers.Numbers.{Numbers}
 use Rattle.bool_lanes.proofs.NumberFacts.{Adds, IsEmpty, least_none, least_swap}

@@ -7,11 +7,11 @@ use Rattle.std.specs.Cmp.Lexicographic.{slice_cmp}
 use Rattle.std.specs.List.{list_any}
 use Rattle.std.specs.Ordering.{nat_cmp}
 use Rattle.sdc_base.proofs.CaseFacts.{cond_or}
-use Rattle.source_types.specs.declared.library_cells.LibCheck.{LibCheck}
-use Rattle.sdc_model.specs.Keys.{side_number}
-use Rattle.sdc_model.specs.LibertyArcs.{is_same_check, with_check}
-use Rattle.sdc_model.specs.Nodes.{edge_number}
-use Rattle.sdc_model.specs.Words.{same_text}
+use Rattle.pin_types.specs.declared.library_cells.LibCheck.{LibCheck}
+use Rattle.pin_types.specs.Nodes.{side_number}
+use Rattle.library_model.specs.LibertyArcs.{is_same_check, with_check}
+use Rattle.pin_types.specs.Nodes.{edge_number}
+use Rattle.text_model.specs.Words.{same_text}
 use Rattle.lib_cells.specs.CheckKeys.{HasKeys, check_key, has_key}
 
 -- ---- the same check

@@ -7,10 +7,10 @@ use Rattle.std.specs.Prelude.{IfOk, codes}
 use Rattle.sdc_base.specs.declared.memory.At.{At}
 use Rattle.source_types.specs.declared.kinds.LibKind.{LibKind}
 use Rattle.source_types.specs.declared.kinds.LibKind.TheVariants.{DoubleCell, LibForm, UnknownPin}
-use Rattle.sdc_model.specs.LibertyCells.{function_names, is_left_out, name_of, pin_groups, pin_names, state_variables, words_of}
-use Rattle.sdc_model.specs.LibertyFaults as liberty
-use Rattle.sdc_model.specs.LibertyStatements.{Member, Statement, is_group, members, value_named}
-use Rattle.sdc_model.specs.Words.{is_among, same_text}
+use Rattle.library_model.specs.LibertyCells.{function_names, is_left_out, name_of, pin_groups, pin_names, state_variables, words_of}
+use Rattle.library_model.specs.LibertyFaults as liberty
+use Rattle.library_model.specs.LibertyStatements.{Member, Statement, is_group, members, value_named}
+use Rattle.text_model.specs.Words.{is_among, same_text}
 use Rattle.lib_cells.specs.CellFacts.{Describes}
 use Rattle.lib_cells.specs.FirstFaults as first_faults
 use Rattle.lib_cells.specs.FirstFaults.{first, first_among, or_fault}

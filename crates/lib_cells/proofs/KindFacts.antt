@@ -4,8 +4,8 @@ use Rattle.std.specs.Prelude.{if◌then◌else◌}
 use Rattle.std.specs.List.{list_any}
 use Rattle.std.proofs.lemmas.List.{append-nil, drop_all, drop_more}
 use Rattle.sdc_base.proofs.CaseFacts.{by_bool}
-use Rattle.sdc_model.specs.LibertyGrammar.{gap_of, kind_of_form, kinds, level_behind, sign_of}
-use Rattle.sdc_model.specs.LibertyTokens as grammar
+use Rattle.library_model.specs.LibertyGrammar.{gap_of, kind_of_form, kinds, level_after, sign_of}
+use Rattle.library_model.specs.LibertyTokens as grammar
 use Rattle.source_types.specs.declared.liberty_tokens.Gap.{Gap}
 use Rattle.source_types.specs.declared.liberty_tokens.Gap.TheVariants.{Blanks, LineEnd, Nothing}
 use Rattle.source_types.specs.declared.liberty_tokens.LibertyToken.{LibertyToken}
@@ -38,18 +38,18 @@ pub record KindsSoFar (tokens : List Token) (index : ℕ) (found : List LibertyT
 pub kinds_none : (tokens : List Token) (found : List LibertyToken) → found ≡ [] → KindsSoFar tokens 0 found 0
 kinds_none tokens found none = record { all = rw none refl; few = omega arith }
 
-level_few : (t : grammar.Token) (level : ℕ) → level_behind t level ≤ level + 1
+level_few : (t : grammar.Token) (level : ℕ) → level_after t level ≤ level + 1
 level_few t level =
     by_bool (λ b. (if b then level + 1 else (if sign_of t == 125 then level - 1 else level)) ≤ level + 1) (sign_of t == 123)
     (λ is. omega arith)
     (λ other. by_bool (λ b. (if b then level - 1 else level) ≤ level + 1) (sign_of t == 125) (λ is. omega arith) (λ not_it. omega arith))
 
-pub kinds_more : (tokens : List Token) (index : ℕ) (found next : List LibertyToken) (level next_level : ℕ) (token : Token) (kind : LibertyToken) → KindsSoFar tokens index found level → index < length tokens → token ≡ get_or tokens index token → kind ≡ kind_of_form (form_seen token.form) level (gap_of token.gap.now) token.text.now → next ≡ found ++ kind ∷ [] → next_level ≡ level_behind (token_seen token) level → KindsSoFar tokens (index + 1) next next_level
+pub kinds_more : (tokens : List Token) (index : ℕ) (found next : List LibertyToken) (level next_level : ℕ) (token : Token) (kind : LibertyToken) → KindsSoFar tokens index found level → index < length tokens → token ≡ get_or tokens index token → kind ≡ kind_of_form (form_seen token.form) level (gap_of token.gap.now) token.text.now → next ≡ found ++ kind ∷ [] → next_level ≡ level_after (token_seen token) level → KindsSoFar tokens (index + 1) next next_level
 kinds_more tokens index found next level next_level token kind so_far inside token_is kind_is next_is level_is = record {
   all =
       so_far.all
       ∙ (ap (λ (ts : List Token). found ++ kinds level (tokens_seen ts)) (drop_more tokens index token inside ∙ ap (λ (t : Token). t ∷ drop (index + 1) tokens) (sym token_is))
-      ∙ (ap (λ (k : LibertyToken). found ++ (k ∷ kinds (level_behind (token_seen token) level) (tokens_seen (drop (index + 1) tokens)))) (sym kind_is)
+      ∙ (ap (λ (k : LibertyToken). found ++ (k ∷ kinds (level_after (token_seen token) level) (tokens_seen (drop (index + 1) tokens)))) (sym kind_is)
       ∙ (ap (λ (n : ℕ). found ++ (kind ∷ kinds n (tokens_seen (drop (index + 1) tokens)))) (sym level_is)
       ∙ (sym (append_assoc found (kind ∷ []) (kinds next_level (tokens_seen (drop (index + 1) tokens))))
       ∙ ap (λ (ks : List LibertyToken). ks ++ kinds next_level (tokens_seen (drop (index + 1) tokens))) (sym next_is)))));

@@ -3,11 +3,11 @@ use Rattle.std.proofs.Common.{◌≡◌, ◌∙◌, ◌+◌, ◌<◌, ◌≤◌,
 use Rattle.std.proofs.Math.Seq.{drop-cons}
 use Rattle.std.proofs.lemmas.Bool.Decides.{nat_tests}
 use Rattle.std.specs.List.{list_any}
-use Rattle.source_types.specs.declared.library_cells.Direction.{Direction}
-use Rattle.source_types.specs.declared.library_cells.Direction.TheVariants as direction
-use Rattle.source_types.specs.declared.library_cells.LibArc.{LibArc}
-use Rattle.sdc_model.specs.LibertyArcs.{direction_at, is_launched_twice, is_output}
-use Rattle.sdc_model.specs.LibertyCells.{NamedPin, direction_of}
+use Rattle.pin_types.specs.declared.library_cells.Direction.{Direction}
+use Rattle.pin_types.specs.declared.library_cells.Direction.TheVariants as direction
+use Rattle.pin_types.specs.declared.library_cells.LibArc.{LibArc}
+use Rattle.library_model.specs.LibertyArcs.{direction_at, is_launched_twice, is_output}
+use Rattle.library_model.specs.LibertyCells.{NamedPin, direction_of}
 use Rattle.lib_cells.specs.Launches.{AreCounts, CountsSoFar, launches_to, twice_at, with_launch}
 
 zeros : (n pin : ℕ) → get_or (replicate {A = ℕ} n 0) pin 0 ≡ 0

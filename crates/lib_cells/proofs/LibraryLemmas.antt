@@ -4,11 +4,11 @@ use Rattle.std.specs.List.{flat_map}
 use Rattle.sdc_base.specs.declared.memory.At.{At}
 use Rattle.source_types.specs.declared.kinds.LibKind.{LibKind}
 use Rattle.source_types.specs.declared.libraries.Library.{Library}
-use Rattle.source_types.specs.declared.library_cells.LibCell.{LibCell}
-use Rattle.sdc_model.specs.LibertyArcs.{lib_cell}
-use Rattle.sdc_model.specs.LibertyFaults.{cells_of, faults_of, first_unit, libraries_of, library_faults}
-use Rattle.sdc_model.specs.LibertyStatements.{Member, Statement}
-use Rattle.sdc_model.specs.LibertyText.{library_if, library_of, unit_in}
+use Rattle.pin_types.specs.declared.library_cells.LibCell.{LibCell}
+use Rattle.library_model.specs.LibertyArcs.{lib_cell}
+use Rattle.library_model.specs.LibertyFaults.{cells_of, faults_of, first_unit, libraries_of, library_faults}
+use Rattle.library_model.specs.LibertyStatements.{Member, Statement}
+use Rattle.library_model.specs.LibertyText.{library_if, library_of, unit_in}
 use Rattle.lib_cells.specs.FirstFaults.{cells_in, first, first_among, library_fault}
 use Rattle.lib_cells.specs.CellNumbers.{HasCells}
 use Rattle.bool_lanes.specs.declared.numbers.Numbers.{Numbers}

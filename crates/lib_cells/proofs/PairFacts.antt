@@ -6,9 +6,9 @@ use Rattle.std.proofs.lemmas.Slice.Eq.{bytes_eq-Decides}
 use Rattle.std.specs.BTreeMap.{BTreeMap, get, Updates}
 use Rattle.std.specs.Cmp.Lexicographic.{slice_cmp}
 use Rattle.std.specs.Ordering.{nat_cmp}
-use Rattle.source_types.specs.declared.library_cells.LibArc.{LibArc}
-use Rattle.sdc_model.specs.LibertyArcs.{both, is_same_pair, same_flag, with_arc}
-use Rattle.sdc_model.specs.Words.{same_text}
+use Rattle.pin_types.specs.declared.library_cells.LibArc.{LibArc}
+use Rattle.library_model.specs.LibertyArcs.{both, is_same_pair, same_flag, with_arc}
+use Rattle.text_model.specs.Words.{same_text}
 use Rattle.lib_cells.specs.Pairs.{HasPairs, launch_number, pair_from, pair_key, pair_place}
 
 -- ---- the same pins
@@ -123,7 +123,7 @@ pub unites_places : (places : BTreeMap (List ℕ) ℕ) (arcs : List LibArc) (arc
 unites_places places arcs arc place has e key =
     has key ∙ sym (pair_from-set arcs arc arc place 0 key (within places arcs arc place has e))
 
--- where it has none, the arc stands behind the others
+-- where it has none, the arc stands after the others
 absent_step : (p n : ℕ) (t : Bool) → nat_lt p n ≡ t → cond t (Some (0 + p)) None ≡ None → n ≤ p
 absent_step p n true e f = cc
 absent_step p n false e f = grind (arith, nat_tests)

@@ -1,8 +1,8 @@
 -- Parts of a cell that are left out.
 use Rattle.std.proofs.Common.{◌≡◌, ◌∙◌, ◌||◌, Bool, List, [], ◌∷◌, refl, ap}
 use Rattle.std.specs.List.{list_any}
-use Rattle.sdc_model.specs.LibertyCells.{is_bus}
-use Rattle.sdc_model.specs.LibertyStatements.{Member}
+use Rattle.library_model.specs.LibertyCells.{is_bus}
+use Rattle.library_model.specs.LibertyStatements.{Member}
 use Rattle.lib_cells.specs.Members.{members_seen}
 use Rattle.lib_cells.specs.Pins.{is_bus_part}
 use Rattle.lib_cells.specs.declared.members.Member.{Member as Held}

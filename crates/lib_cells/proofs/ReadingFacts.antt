@@ -9,12 +9,12 @@ use Rattle.sdc_base.specs.declared.memory.Stop.TheVariants as stop
 use Rattle.source_types.specs.declared.kinds.LibKind.{LibKind}
 use Rattle.source_types.specs.declared.kinds.LibKind.TheVariants.{LibForm, NotText}
 use Rattle.source_types.specs.declared.libraries.Library.{Library}
-use Rattle.sdc_model.specs.LastLine.{broken_text_line}
-use Rattle.sdc_model.specs.LibertyFaults.{faults_of}
-use Rattle.sdc_model.specs.LibertyGrammar.{IsFormed}
-use Rattle.sdc_model.specs.LibertyStatements.{Statement, statements_of}
-use Rattle.sdc_model.specs.LibertyText.{ReadsLibrary, library_if, read}
-use Rattle.sdc_model.specs.LibertyTokens.{IsLexed, Token, Within, characters, is_in_comment, is_unfinished, plain}
+use Rattle.text_model.specs.LastLine.{broken_text_line}
+use Rattle.library_model.specs.LibertyFaults.{faults_of}
+use Rattle.library_model.specs.LibertyGrammar.{IsFormed}
+use Rattle.library_model.specs.LibertyStatements.{Statement, statements_of}
+use Rattle.library_model.specs.LibertyText.{ReadsLibrary, library_if, read}
+use Rattle.library_model.specs.LibertyTokens.{IsLexed, Token, Within, characters, is_in_comment, is_unfinished, plain}
 use Rattle.lib_cells.specs.Characters.{AreCharacters, Shows}
 use Rattle.lib_cells.specs.declared.characters.Characters.{Characters}
 use Rattle.lib_cells.specs.declared.lexing.Lexed.{Lexed}
@@ -22,7 +22,7 @@ use Rattle.lib_cells.specs.declared.statements.Statement.{Statement as HeldState
 use Rattle.lib_cells.specs.declared.tokens.Token.{Token as Held}
 use Rattle.lib_cells.specs.Lexing.{AreLexed}
 use Rattle.lib_cells.specs.Reading.{ReadsText}
-use Rattle.lib_cells.specs.Recognition.{HasBreak, outcome_of}
+use Rattle.lib_cells.specs.Recognition.{HasError, outcome_of}
 use Rattle.lib_cells.specs.Seen.{statements_seen, tokens_seen, within_seen}
 use Rattle.lib_cells.proofs.TextFacts.{shown_is_text}
 
@@ -42,20 +42,20 @@ lexed_of text shown lines found lexed tokens unfinished are shown_is lines_are l
 
 -- ---- from tokens to what they mean
 
-formed_of : (text : List ℕ) (tokens : List Token) (unfinished : Bool) (line : Option ℕ) → IsLexed text tokens unfinished → HasBreak text tokens unfinished line → IsFormed text (outcome_of tokens line)
-formed_of text tokens unfinished line lexes breaks = record {
+formed_of : (text : List ℕ) (tokens : List Token) (unfinished : Bool) (line : Option ℕ) → IsLexed text tokens unfinished → HasError text tokens unfinished line → IsFormed text (outcome_of tokens line)
+formed_of text tokens unfinished line lexes error_is = record {
   tokens = tokens;
   unfinished = unfinished;
-  place = breaks.place;
+  place = error_is.place;
   lexed = lexes;
-  breaks = breaks.breaks;
-  gives = breaks.gives;
+  error_is = error_is.error_is;
+  gives = error_is.gives;
 }
 
-pub broken : (text : List ℕ) (tokens : List Token) (unfinished : Bool) (found : Option ℕ) (line : ℕ) → IsLexed text tokens unfinished → HasBreak text tokens unfinished found → found ≡ Some line → ReadsText text (Err (record { line = line; kind = LibForm }))
-broken text tokens unfinished found line lexes breaks found_is = record {
+pub broken : (text : List ℕ) (tokens : List Token) (unfinished : Bool) (found : Option ℕ) (line : ℕ) → IsLexed text tokens unfinished → HasError text tokens unfinished found → found ≡ Some line → ReadsText text (Err (record { line = line; kind = LibForm }))
+broken text tokens unfinished found line lexes error_is found_is = record {
   formed = Err line;
-  is = formed_of text tokens unfinished (Some line) lexes (subst (λ (l : Option ℕ). HasBreak text tokens unfinished l) found_is breaks);
+  is = formed_of text tokens unfinished (Some line) lexes (subst (λ (l : Option ℕ). HasError text tokens unfinished l) found_is error_is);
   gives = refl;
 }
 
@@ -63,21 +63,21 @@ pub gives_read : (tokens : List Token) (made shown : List HeldStatement) (result
 gives_read tokens made shown result are shown_is gives =
     subst (λ (ss : List Statement). Gives result (library_if ss (faults_of ss))) (ap statements_seen shown_is ∙ are) gives
 
-whole : (text : List ℕ) (tokens : List Token) (unfinished : Bool) (outcome : Result Library (At LibKind)) → IsLexed text tokens unfinished → HasBreak text tokens unfinished None → read (Ok tokens) ≡ outcome → ReadsText text outcome
-whole text tokens unfinished outcome lexes breaks gives = record {
+whole : (text : List ℕ) (tokens : List Token) (unfinished : Bool) (outcome : Result Library (At LibKind)) → IsLexed text tokens unfinished → HasError text tokens unfinished None → read (Ok tokens) ≡ outcome → ReadsText text outcome
+whole text tokens unfinished outcome lexes error_is gives = record {
   formed = Ok tokens;
-  is = formed_of text tokens unfinished None lexes breaks;
+  is = formed_of text tokens unfinished None lexes error_is;
   gives = sym gives;
 }
 
-whole_of : (text : List ℕ) (tokens : List Token) (unfinished : Bool) (result : Result Library (Stop (At LibKind))) → IsLexed text tokens unfinished → HasBreak text tokens unfinished None → Gives result (read (Ok tokens)) → Meets result (ReadsText text)
-whole_of text tokens unfinished (Ok library) lexes breaks gives = whole text tokens unfinished (Ok library) lexes breaks gives
-whole_of text tokens unfinished (Err (stop.Refused fault)) lexes breaks gives = whole text tokens unfinished (Err fault) lexes breaks gives
-whole_of text tokens unfinished (Err stop.NoMemory) lexes breaks gives = tt
+whole_of : (text : List ℕ) (tokens : List Token) (unfinished : Bool) (result : Result Library (Stop (At LibKind))) → IsLexed text tokens unfinished → HasError text tokens unfinished None → Gives result (read (Ok tokens)) → Meets result (ReadsText text)
+whole_of text tokens unfinished (Ok library) lexes error_is gives = whole text tokens unfinished (Ok library) lexes error_is gives
+whole_of text tokens unfinished (Err (stop.Refused fault)) lexes error_is gives = whole text tokens unfinished (Err fault) lexes error_is gives
+whole_of text tokens unfinished (Err stop.NoMemory) lexes error_is gives = tt
 
-pub read_whole : (text : List ℕ) (tokens : List Token) (unfinished : Bool) (found : Option ℕ) (result : Result Library (Stop (At LibKind))) → IsLexed text tokens unfinished → HasBreak text tokens unfinished found → found ≡ None → Gives result (read (Ok tokens)) → Meets result (ReadsText text)
-read_whole text tokens unfinished found result lexes breaks found_is gives =
-    whole_of text tokens unfinished result lexes (subst (λ (l : Option ℕ). HasBreak text tokens unfinished l) found_is breaks) gives
+pub read_whole : (text : List ℕ) (tokens : List Token) (unfinished : Bool) (found : Option ℕ) (result : Result Library (Stop (At LibKind))) → IsLexed text tokens unfinished → HasError text tokens unfinished found → found ≡ None → Gives result (read (Ok tokens)) → Meets result (ReadsText text)
+read_whole text tokens unfinished found result lexes error_is found_is gives =
+    whole_of text tokens unfinished result lexes (subst (λ (l : Option ℕ). HasError text tokens unfinished l) found_is error_is) gives
 
 -- ---- bytes
 

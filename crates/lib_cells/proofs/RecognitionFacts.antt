@@ -1,20 +1,20 @@
--- The line of a break is that of the kinds of the tokens.
+-- The line of a syntax error is that of the kinds of the tokens.
 use Rattle.std.proofs.Common.{◌≡◌, ◌<◌, ℕ, Bool, List, Option, length, get_or, sym, ap, subst, ◌∙◌, arith}
 use Rattle.std.proofs.lemmas.List.{get_or-map, length-map}
-use Rattle.token_grammar.specs.declared.grammar.Break.{Break}
-use Rattle.token_grammar.specs.Texts.{Breaks}
+use Rattle.token_grammar.specs.declared.grammar.SyntaxError.{SyntaxError}
+use Rattle.token_grammar.specs.Texts.{ErrorIs}
 use Rattle.source_types.specs.declared.liberty_tokens.LibertySymbol.TheVariants as part
 use Rattle.source_types.specs.declared.liberty_tokens.LibertyToken.{LibertyToken}
-use Rattle.sdc_model.specs.LibertyGrammar.{formed, kinds, liberty, line_at}
-use Rattle.sdc_model.specs.LibertyTokens.{Token}
+use Rattle.library_model.specs.LibertyGrammar.{formed, kinds, liberty, line_at}
+use Rattle.library_model.specs.LibertyTokens.{Token}
 use Rattle.lib_cells.specs.declared.tokens.Token.{Token as Held}
-use Rattle.lib_cells.specs.Recognition.{HasBreak, outcome_of}
+use Rattle.lib_cells.specs.Recognition.{HasError, outcome_of}
 use Rattle.lib_cells.specs.Seen.{token_seen, tokens_seen}
 
-pub has_break : (text : List ℕ) (tokens : List Token) (unfinished : Bool) (line : Option ℕ) (found : List LibertyToken) (place : Option Break) → found ≡ kinds 0 tokens → Breaks liberty part.Libraries found place → outcome_of tokens line ≡ formed text tokens unfinished place → HasBreak text tokens unfinished line
-has_break text tokens unfinished line found place found_is breaks gives = record {
+pub has_error : (text : List ℕ) (tokens : List Token) (unfinished : Bool) (line : Option ℕ) (found : List LibertyToken) (place : Option SyntaxError) → found ≡ kinds 0 tokens → ErrorIs liberty part.Libraries found place → outcome_of tokens line ≡ formed text tokens unfinished place → HasError text tokens unfinished line
+has_error text tokens unfinished line found place found_is error_is gives = record {
   place = place;
-  breaks = subst (λ (ks : List LibertyToken). Breaks liberty part.Libraries ks place) found_is breaks;
+  error_is = subst (λ (ks : List LibertyToken). ErrorIs liberty part.Libraries ks place) found_is error_is;
   gives = gives;
 }
 

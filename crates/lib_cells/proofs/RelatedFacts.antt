@@ -3,17 +3,17 @@ use Rattle.std.proofs.Common.{◌≡◌, ◌∙◌, ◌+◌, ◌<◌, ℕ, Bool,
 use Rattle.std.proofs.lemmas.Bool.Decides.{nat_tests}
 use Rattle.std.specs.List.{flat_map}
 use Rattle.std.specs.Prelude.{codes}
-use Rattle.sdc_model.specs.FunctionText.{place_in}
-use Rattle.sdc_model.specs.LibertyArcs as liberty
-use Rattle.sdc_model.specs.LibertyCells.{NamedPin}
-use Rattle.sdc_model.specs.LibertyStatements.{Member, groups, last_value, members}
-use Rattle.sdc_model.specs.LibertyTiming.{timing_named}
-use Rattle.sdc_model.specs.Words.{same_text}
-use Rattle.sdc_model.proofs.ListFacts.{flat_map_same}
+use Rattle.function_model.specs.FunctionText.{place_in}
+use Rattle.library_model.specs.LibertyArcs as liberty
+use Rattle.library_model.specs.LibertyCells.{NamedPin}
+use Rattle.library_model.specs.LibertyStatements.{Member, groups, last_value, members}
+use Rattle.library_model.specs.LibertyTiming.{timing_named}
+use Rattle.text_model.specs.Words.{same_text}
+use Rattle.text_model.proofs.ListFacts.{flat_map_same}
 use Rattle.bool_lanes.specs.NamedNumbers.{HasPlaces, number_at, place_if}
 use Rattle.lib_cells.specs.RelatedPins.{pin_if, related_all, related_in, related_word, related_words}
 use Rattle.bool_lanes.specs.declared.numbers.Numbers.{Numbers}
-use Rattle.bool_lanes.proofs.NumberFacts.{behind_case, further, place_from-place_if}
+use Rattle.bool_lanes.proofs.NumberFacts.{after_case, further, place_from-place_if}
 
 -- ---- a name that is a pin
 
@@ -45,11 +45,11 @@ pin_step : (t : Bool) (all own n m n' m' : ℕ) → n' ≡ 1 + n → m' ≡ 1 + 
     ≡ cond (nat_lt (cond (not t) (1 + own) 0) m') (Some (cond (not t) (1 + own) 0)) None
 pin_step true all own n m n' m' e f h = first_test n' m' (omega arith) (omega arith)
 pin_step false all own n m n' m' e f h =
-    ap (λ o. pin_if o m') (sym (behind_case all n n' e))
+    ap (λ o. pin_if o m') (sym (after_case all n n' e))
     ∙ (pin_further (cond (nat_lt all n) (Some all) None) m m' f
-    ∙ (ap (further 1) h ∙ behind_case own m m' f))
+    ∙ (ap (further 1) h ∙ after_case own m m' f))
 
--- among the names of pins and others behind them, a name is a pin where it is one of their names
+-- among the names of pins and others after them, a name is a pin where it is one of their names
 pin_if-place_if : (names others : List (List ℕ)) (name : List ℕ) → pin_if (place_if (names ++ others) name) (length names) ≡ place_if names name
 pin_if-place_if [] others name = none_of_none (place_if others name)
 pin_if-place_if (own ∷ names) others name =

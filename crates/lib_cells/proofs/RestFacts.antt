@@ -1,4 +1,4 @@
--- What is left of a list behind as many items as it has at least.
+-- What is left of a list after as many items as it has at least.
 use Rattle.std.proofs.Common.{◌≡◌, ℕ, List, drop, length}
 use Rattle.std.specs.Prelude.{min}
 use Rattle.std.proofs.lemmas.List.{drop_min}

@@ -7,12 +7,12 @@ use Rattle.std.proofs.lemmas.Bool.Decides.{nat_tests}
 use Rattle.std.proofs.lemmas.List.{drop_all, drop_more}
 use Rattle.std.proofs.lemmas.Str.{IsCharBoundary-after_ascii, IsCharBoundary-before_ascii, IsCharBoundary-end, IsCharBoundary-start}
 use Rattle.sdc_base.proofs.CaseFacts.{by_bool}
-use Rattle.sdc_model.specs.LibertyTokens.{Character, bare_len, brackets_behind, bytes_of, is_bare_byte, parts}
+use Rattle.library_model.specs.LibertyTokens.{Character, bare_len, brackets_after, bytes_of, is_bare_byte, parts}
 use Rattle.lib_cells.specs.Scan.{bare_bytes, is_no_quote}
 
 -- ---- the name at the front
 
--- the first bytes of a text belong to its name, and so many square brackets of it are open behind them
+-- the first bytes of a text belong to its name, and so many square brackets of it are open after them
 pub record BareSoFar (text : List ℕ) (len brackets : ℕ) : Type 0 where
   pub same : bare_bytes 0 text ≡ bare_bytes brackets (drop len text) + len
   pub within : len ≤ length text
@@ -21,28 +21,28 @@ pub record BareSoFar (text : List ℕ) (len brackets : ℕ) : Type 0 where
 pub bare_none : (text : List ℕ) → BareSoFar text 0 0
 bare_none text = record { same = omega arith; within = omega arith; few = omega arith }
 
-bare_step : (brackets b : ℕ) (bs : List ℕ) → is_bare_byte brackets b ≡ true → bare_bytes brackets (b ∷ bs) ≡ bare_bytes (brackets_behind b brackets) bs + 1
-bare_step brackets b bs is = ap (λ t. if t then bare_bytes (brackets_behind b brackets) bs + 1 else 0) is
+bare_step : (brackets b : ℕ) (bs : List ℕ) → is_bare_byte brackets b ≡ true → bare_bytes brackets (b ∷ bs) ≡ bare_bytes (brackets_after b brackets) bs + 1
+bare_step brackets b bs is = ap (λ t. if t then bare_bytes (brackets_after b brackets) bs + 1 else 0) is
 
 bare_stop : (brackets b : ℕ) (bs : List ℕ) → is_bare_byte brackets b ≡ false → bare_bytes brackets (b ∷ bs) ≡ 0
-bare_stop brackets b bs is = ap (λ t. if t then bare_bytes (brackets_behind b brackets) bs + 1 else 0) is
+bare_stop brackets b bs is = ap (λ t. if t then bare_bytes (brackets_after b brackets) bs + 1 else 0) is
 
-behind_few : (b brackets : ℕ) → brackets_behind b brackets ≤ brackets + 1
-behind_few b brackets =
+after_few : (b brackets : ℕ) → brackets_after b brackets ≤ brackets + 1
+after_few b brackets =
     by_bool (λ t. (if t then brackets + 1 else (if b == 93 then brackets - 1 else brackets)) ≤ brackets + 1) (b == 91)
     (λ is. omega arith)
     (λ other. by_bool (λ t. (if t then brackets - 1 else brackets) ≤ brackets + 1) (b == 93) (λ is. omega arith) (λ not_it. omega arith))
 
-pub bare_more : (text : List ℕ) (len brackets next : ℕ) → BareSoFar text len brackets → len < length text → is_bare_byte brackets (get_or text len 0) ≡ true → next ≡ brackets_behind (get_or text len 0) brackets → BareSoFar text (len + 1) next
+pub bare_more : (text : List ℕ) (len brackets next : ℕ) → BareSoFar text len brackets → len < length text → is_bare_byte brackets (get_or text len 0) ≡ true → next ≡ brackets_after (get_or text len 0) brackets → BareSoFar text (len + 1) next
 bare_more text len brackets next so_far inside is next_is =
     subst (λ (n : ℕ). BareSoFar text (len + 1) n) (sym next_is) (record {
       same = so_far.same ∙ more;
       within = omega (arith, inside);
-      few = omega (arith, behind_few (get_or text len 0) brackets, so_far.few);
+      few = omega (arith, after_few (get_or text len 0) brackets, so_far.few);
     }) where
-      more : bare_bytes brackets (drop len text) + len ≡ bare_bytes (brackets_behind (get_or text len 0) brackets) (drop (len + 1) text) + (len + 1)
+      more : bare_bytes brackets (drop len text) + len ≡ bare_bytes (brackets_after (get_or text len 0) brackets) (drop (len + 1) text) + (len + 1)
       more =
-          let here : bare_bytes brackets (drop len text) ≡ bare_bytes (brackets_behind (get_or text len 0) brackets) (drop (len + 1) text) + 1 = ap (bare_bytes brackets) (drop_more text len 0 inside) ∙ bare_step brackets (get_or text len 0) (drop (len + 1) text) is in
+          let here : bare_bytes brackets (drop len text) ≡ bare_bytes (brackets_after (get_or text len 0) brackets) (drop (len + 1) text) + 1 = ap (bare_bytes brackets) (drop_more text len 0 inside) ∙ bare_step brackets (get_or text len 0) (drop (len + 1) text) is in
           omega (arith, here)
 
 pub bare_stops : (text : List ℕ) (len brackets : ℕ) → BareSoFar text len brackets → len < length text → is_bare_byte brackets (get_or text len 0) ≡ false → len ≡ bare_bytes 0 text
@@ -59,7 +59,7 @@ bare_all text len brackets so_far past =
 
 pub bare_of_bytes : (brackets : ℕ) (cs : List Character) → bare_bytes brackets (bytes_of cs) ≡ bare_len brackets cs
 bare_of_bytes brackets [] = refl
-bare_of_bytes brackets (c ∷ cs) = ap (λ n. if is_bare_byte brackets c.byte then n + 1 else 0) (bare_of_bytes (brackets_behind c.byte brackets) cs)
+bare_of_bytes brackets (c ∷ cs) = ap (λ n. if is_bare_byte brackets c.byte then n + 1 else 0) (bare_of_bytes (brackets_after c.byte brackets) cs)
 
 pub prefix_of_bytes : (test : ℕ → Bool) (cs : List Character) → prefix_len test (bytes_of cs) ≡ prefix_len (λ (c : Character). test c.byte) cs
 prefix_of_bytes test [] = refl
@@ -110,19 +110,19 @@ prefix_stop test (b ∷ bs) less = stop_cases test b bs (test b) refl (λ below.
 pub bare_within : (brackets : ℕ) (text : List ℕ) → bare_bytes brackets text ≤ length text
 bare_within brackets [] = omega arith
 bare_within brackets (b ∷ bs) =
-    by_bool (λ t. (if t then bare_bytes (brackets_behind b brackets) bs + 1 else 0) ≤ suc (length bs)) (is_bare_byte brackets b)
-    (λ is. omega (arith, bare_within (brackets_behind b brackets) bs))
+    by_bool (λ t. (if t then bare_bytes (brackets_after b brackets) bs + 1 else 0) ≤ suc (length bs)) (is_bare_byte brackets b)
+    (λ is. omega (arith, bare_within (brackets_after b brackets) bs))
     (λ is. omega arith)
 
--- behind the bytes of a name stands the end, or an ASCII byte
-end_cases : (brackets b : ℕ) (bs : List ℕ) (t : Bool) → is_bare_byte brackets b ≡ t → (bare_bytes (brackets_behind b brackets) bs < length bs → get_or bs (bare_bytes (brackets_behind b brackets) bs) 0 < 128) → (if t then bare_bytes (brackets_behind b brackets) bs + 1 else 0) < suc (length bs) → get_or (b ∷ bs) (if t then bare_bytes (brackets_behind b brackets) bs + 1 else 0) 0 < 128
+-- after the bytes of a name stands the end, or an ASCII byte
+end_cases : (brackets b : ℕ) (bs : List ℕ) (t : Bool) → is_bare_byte brackets b ≡ t → (bare_bytes (brackets_after b brackets) bs < length bs → get_or bs (bare_bytes (brackets_after b brackets) bs) 0 < 128) → (if t then bare_bytes (brackets_after b brackets) bs + 1 else 0) < suc (length bs) → get_or (b ∷ bs) (if t then bare_bytes (brackets_after b brackets) bs + 1 else 0) 0 < 128
 end_cases brackets b bs true is rest below =
-    subst (λ (n : ℕ). get_or (b ∷ bs) n 0 < 128) (one_after (bare_bytes (brackets_behind b brackets) bs)) (rest (omega (arith, below)))
+    subst (λ (n : ℕ). get_or (b ∷ bs) n 0 < 128) (one_after (bare_bytes (brackets_after b brackets) bs)) (rest (omega (arith, below)))
 end_cases brackets b bs false is rest below = byte_ends brackets b is
 
 bare_end : (brackets : ℕ) (text : List ℕ) → bare_bytes brackets text < length text → get_or text (bare_bytes brackets text) 0 < 128
 bare_end brackets [] less = absurd (omega (arith, less))
-bare_end brackets (b ∷ bs) less = end_cases brackets b bs (is_bare_byte brackets b) refl (λ below. bare_end (brackets_behind b brackets) bs below) less
+bare_end brackets (b ∷ bs) less = end_cases brackets b bs (is_bare_byte brackets b) refl (λ below. bare_end (brackets_after b brackets) bs below) less
 
 -- a place before an ASCII byte or at the end
 before_or_end : (text : List ℕ) (at : ℕ) → at ≤ length text → (at < length text → get_or text at 0 < 128) → IsCharBoundary text at

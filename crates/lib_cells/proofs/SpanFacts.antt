@@ -1,9 +1,9 @@
 -- The front of statements or of tokens that a count of them takes.
 use Rattle.std.proofs.Common.{◌≡◌, ◌∙◌, ◌+◌, ◌==◌, ◌||◌, ℕ, Bool, true, false, cond, List, [], ◌∷◌, nat_lt, not, one-add, refl, ap, take}
 use Rattle.std.specs.List.{list_any, prefix_len}
-use Rattle.sdc_model.specs.LibertyGrammar.{sign_of}
-use Rattle.sdc_model.specs.LibertyStatements.{front_of, within}
-use Rattle.sdc_model.specs.LibertyTokens as grammar
+use Rattle.library_model.specs.LibertyGrammar.{sign_of}
+use Rattle.library_model.specs.LibertyStatements.{front_of, within}
+use Rattle.library_model.specs.LibertyTokens as grammar
 use Rattle.lib_cells.specs.Said.{has_brace}
 use Rattle.lib_cells.specs.Seen.{statement_seen, statements_seen, token_seen, tokens_seen}
 use Rattle.lib_cells.specs.Spans.{deeper_len, goes_on, is_brace, stays_open}

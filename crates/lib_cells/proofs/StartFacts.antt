@@ -3,10 +3,10 @@ use Rattle.std.proofs.Common.{◌≡◌, ◌++◌, ◌+◌, ◌-◌, ◌<◌, �
 use Rattle.std.specs.Prelude.{if◌then◌else◌}
 use Rattle.std.proofs.lemmas.List.{append-nil, drop_all, drop_more, get_or-drop, get_or_default, length-drop, map_push, take_more}
 use Rattle.sdc_base.proofs.CaseFacts.{by_bool}
-use Rattle.sdc_model.specs.LibertyGrammar.{level_behind, sign_of}
-use Rattle.sdc_model.specs.LibertyStatements as grammar
-use Rattle.sdc_model.specs.LibertyStatements.{Statement, begins, cut, parentheses_behind, place_behind}
-use Rattle.sdc_model.specs.LibertyTokens as liberty
+use Rattle.library_model.specs.LibertyGrammar.{level_after, sign_of}
+use Rattle.library_model.specs.LibertyStatements as grammar
+use Rattle.library_model.specs.LibertyStatements.{Statement, begins, cut, parentheses_after, place_after}
+use Rattle.library_model.specs.LibertyTokens as liberty
 use Rattle.lib_cells.specs.declared.statements.Place.{Place}
 use Rattle.lib_cells.specs.declared.statements.Start.{Start}
 use Rattle.lib_cells.specs.declared.tokens.Token.{Token}
@@ -23,24 +23,24 @@ pub record StartSoFar (tokens : List Token) (from : ℕ) (place : grammar.Place)
 
 -- ---- counts
 
-parentheses_few : (t : liberty.Token) (n : ℕ) → parentheses_behind t n ≤ n + 1
+parentheses_few : (t : liberty.Token) (n : ℕ) → parentheses_after t n ≤ n + 1
 parentheses_few t n =
     by_bool (λ b. (if b then n + 1 else (if sign_of t == 41 then n - 1 else n)) ≤ n + 1) (sign_of t == 40)
     (λ is. omega arith)
     (λ other. by_bool (λ b. (if b then n - 1 else n) ≤ n + 1) (sign_of t == 41) (λ is. omega arith) (λ not_it. omega arith))
 
-levels_few : (t : liberty.Token) (n : ℕ) → level_behind t n ≤ n + 1
+levels_few : (t : liberty.Token) (n : ℕ) → level_after t n ≤ n + 1
 levels_few t n =
     by_bool (λ b. (if b then n + 1 else (if sign_of t == 125 then n - 1 else n)) ≤ n + 1) (sign_of t == 123)
     (λ is. omega arith)
     (λ other. by_bool (λ b. (if b then n - 1 else n) ≤ n + 1) (sign_of t == 125) (λ is. omega arith) (λ not_it. omega arith))
 
-numbers_few : (place : grammar.Place) (t : liberty.Token) → (place_behind place t).number ≤ place.number + 1
+numbers_few : (place : grammar.Place) (t : liberty.Token) → (place_after place t).number ≤ place.number + 1
 numbers_few place t =
     by_bool (λ b. (if b then place.number + 1 else place.number) ≤ place.number + 1) (begins place t) (λ is. omega arith) (λ other. omega arith)
 
-pub few_behind : (place : grammar.Place) (t : liberty.Token) (at : ℕ) → IsFew place at → IsFew (place_behind place t) (at + 1)
-few_behind place t at few = record {
+pub few_after : (place : grammar.Place) (t : liberty.Token) (at : ℕ) → IsFew place at → IsFew (place_after place t) (at + 1)
+few_after place t at few = record {
   parentheses_are = omega (arith, parentheses_few t place.parentheses, few.parentheses_are);
   levels_are = omega (arith, levels_few t place.level, few.levels_are);
   numbers_are = omega (arith, numbers_few place t, few.numbers_are);
@@ -52,17 +52,17 @@ abbrev pub Cut : Type 0
 Cut = List liberty.Token × List Statement
 
 abbrev pub begun_if : grammar.Place → liberty.Token → Cut → Bool → Cut
-begun_if place t behind b =
-    if b then ([], record { level = place.level; number = place.number; name = t; rest = behind.0 } ∷ behind.1)
-    else (t ∷ behind.0, behind.1)
+begun_if place t after b =
+    if b then ([], record { level = place.level; number = place.number; name = t; rest = after.0 } ∷ after.1)
+    else (t ∷ after.0, after.1)
 
 -- a token that begins no statement
-cut_passes : (place : grammar.Place) (t : liberty.Token) (ts : List liberty.Token) → begins place t ≡ false → cut place (t ∷ ts) ≡ begun_if place t (cut (place_behind place t) ts) false
-cut_passes place t ts fails = ap (begun_if place t (cut (place_behind place t) ts)) fails
+cut_passes : (place : grammar.Place) (t : liberty.Token) (ts : List liberty.Token) → begins place t ≡ false → cut place (t ∷ ts) ≡ begun_if place t (cut (place_after place t) ts) false
+cut_passes place t ts fails = ap (begun_if place t (cut (place_after place t) ts)) fails
 
 -- one that begins one
-pub cut_begins : (place : grammar.Place) (t : liberty.Token) (ts : List liberty.Token) → begins place t ≡ true → cut place (t ∷ ts) ≡ begun_if place t (cut (place_behind place t) ts) true
-cut_begins place t ts is = ap (begun_if place t (cut (place_behind place t) ts)) is
+pub cut_begins : (place : grammar.Place) (t : liberty.Token) (ts : List liberty.Token) → begins place t ≡ true → cut place (t ∷ ts) ≡ begun_if place t (cut (place_after place t) ts) true
+cut_begins place t ts is = ap (begun_if place t (cut (place_after place t) ts)) is
 
 pub drop_seen : (tokens : List Token) (at : ℕ) (token : Token) → at < length tokens → token ≡ get_or tokens at token → tokens_seen (drop at tokens) ≡ token_seen token ∷ tokens_seen (drop (at + 1) tokens)
 drop_seen tokens at token inside is = ap tokens_seen (drop_more tokens at token inside ∙ ap (λ (t : Token). t ∷ drop (at + 1) tokens) (sym is))
@@ -102,33 +102,33 @@ start_none tokens from place start within few at_is place_is = record {
       (subst (λ (n : ℕ). IsFew (place_seen place) n) (sym at_is) few);
 }
 
-pub start_more : (tokens : List Token) (from : ℕ) (place : grammar.Place) (start next : Start) (token : Token) → StartSoFar tokens from place start → start.at < length tokens → begins (place_seen start.place) (token_seen token) ≡ false → next.at ≡ start.at + 1 → place_seen next.place ≡ place_behind (place_seen start.place) (token_seen token) → token ≡ get_or tokens start.at token → StartSoFar tokens from place next
+pub start_more : (tokens : List Token) (from : ℕ) (place : grammar.Place) (start next : Start) (token : Token) → StartSoFar tokens from place start → start.at < length tokens → begins (place_seen start.place) (token_seen token) ≡ false → next.at ≡ start.at + 1 → place_seen next.place ≡ place_after (place_seen start.place) (token_seen token) → token ≡ get_or tokens start.at token → StartSoFar tokens from place next
 start_more tokens from place start next token so_far inside fails at_is place_is token_is = record {
   before =
       so_far.before
       ∙ (ap (λ (c : Cut). seen_before ++ c.0) here
-      ∙ (sym (append_assoc seen_before (token_seen token ∷ []) behind.0)
-      ∙ (ap (λ (ts : List liberty.Token). ts ++ behind.0) (sym (take_seen tokens from start.at token so_far.forward inside token_is))
-      ∙ (ap (λ (n : ℕ). tokens_seen (take (n - from) (drop from tokens)) ++ (cut (place_behind (place_seen start.place) (token_seen token)) (tokens_seen (drop n tokens))).0) (sym at_is)
+      ∙ (sym (append_assoc seen_before (token_seen token ∷ []) after.0)
+      ∙ (ap (λ (ts : List liberty.Token). ts ++ after.0) (sym (take_seen tokens from start.at token so_far.forward inside token_is))
+      ∙ (ap (λ (n : ℕ). tokens_seen (take (n - from) (drop from tokens)) ++ (cut (place_after (place_seen start.place) (token_seen token)) (tokens_seen (drop n tokens))).0) (sym at_is)
       ∙ ap (λ (p : grammar.Place). tokens_seen (take (next.at - from) (drop from tokens)) ++ (cut p (tokens_seen (drop next.at tokens))).0) (sym place_is)))));
   statements =
       so_far.statements
       ∙ (ap (λ (c : Cut). c.1) here
-      ∙ (ap (λ (n : ℕ). (cut (place_behind (place_seen start.place) (token_seen token)) (tokens_seen (drop n tokens))).1) (sym at_is)
+      ∙ (ap (λ (n : ℕ). (cut (place_after (place_seen start.place) (token_seen token)) (tokens_seen (drop n tokens))).1) (sym at_is)
       ∙ ap (λ (p : grammar.Place). (cut p (tokens_seen (drop next.at tokens))).1) (sym place_is)));
   forward = omega (arith, at_is, so_far.forward);
   within = omega (arith, at_is, inside);
   few =
       subst (λ (p : grammar.Place). IsFew p next.at) (sym place_is)
-      (subst (λ (n : ℕ). IsFew (place_behind (place_seen start.place) (token_seen token)) n) (sym at_is) (few_behind (place_seen start.place) (token_seen token) start.at so_far.few));
+      (subst (λ (n : ℕ). IsFew (place_after (place_seen start.place) (token_seen token)) n) (sym at_is) (few_after (place_seen start.place) (token_seen token) start.at so_far.few));
 } where
   seen_before : List liberty.Token
   seen_before = tokens_seen (take (start.at - from) (drop from tokens))
 
-  behind : Cut
-  behind = cut (place_behind (place_seen start.place) (token_seen token)) (tokens_seen (drop (start.at + 1) tokens))
+  after : Cut
+  after = cut (place_after (place_seen start.place) (token_seen token)) (tokens_seen (drop (start.at + 1) tokens))
 
-  here : cut (place_seen start.place) (tokens_seen (drop start.at tokens)) ≡ begun_if (place_seen start.place) (token_seen token) behind false
+  here : cut (place_seen start.place) (tokens_seen (drop start.at tokens)) ≡ begun_if (place_seen start.place) (token_seen token) after false
   here =
       ap (cut (place_seen start.place)) (drop_seen tokens start.at token inside token_is)
       ∙ cut_passes (place_seen start.place) (token_seen token) (tokens_seen (drop (start.at + 1) tokens)) fails

@@ -1,9 +1,9 @@
 -- The statements so far, with those of the rest of the tokens, are all of them.
 use Rattle.std.proofs.Common.{◌≡◌, ◌++◌, ◌+◌, ◌-◌, ◌<◌, ◌≤◌, ℕ, true, List, [], ◌∷◌, length, get_or, drop, take, sym, ap, subst, ◌∙◌, append_assoc}
 use Rattle.std.proofs.lemmas.List.{append-nil, drop_all, map_push}
-use Rattle.sdc_model.specs.LibertyStatements as grammar
-use Rattle.sdc_model.specs.LibertyStatements.{begins, cut, first_place, place_behind, statements_of}
-use Rattle.sdc_model.specs.LibertyTokens as liberty
+use Rattle.library_model.specs.LibertyStatements as grammar
+use Rattle.library_model.specs.LibertyStatements.{begins, cut, first_place, place_after, statements_of}
+use Rattle.library_model.specs.LibertyTokens as liberty
 use Rattle.lib_cells.specs.declared.statements.Start.{Start}
 use Rattle.lib_cells.specs.declared.statements.Statement.{Statement}
 use Rattle.lib_cells.specs.declared.tokens.Token.{Token}
@@ -30,7 +30,7 @@ statements_none tokens found place start none place_is at = record {
 abbrev made : ℕ → ℕ → liberty.Token → List liberty.Token → grammar.Statement
 made level number name rest = record { level = level; number = number; name = name; rest = rest }
 
-pub statements_more : (tokens : List Token) (found more : List Statement) (start next : Start) (name : Token) (place : grammar.Place) (statement : Statement) → StatementsSoFar tokens found start → start.at < length tokens → name ≡ get_or tokens start.at name → place ≡ place_behind (place_seen start.place) (token_seen name) → IsStart tokens (start.at + 1) place next → statement.level ≡ start.place.level → statement.number ≡ start.place.number → statement.name ≡ name → statement.rest.now ≡ take (next.at - (start.at + 1)) (drop (start.at + 1) tokens) → more ≡ found ++ statement ∷ [] → StatementsSoFar tokens more next
+pub statements_more : (tokens : List Token) (found more : List Statement) (start next : Start) (name : Token) (place : grammar.Place) (statement : Statement) → StatementsSoFar tokens found start → start.at < length tokens → name ≡ get_or tokens start.at name → place ≡ place_after (place_seen start.place) (token_seen name) → IsStart tokens (start.at + 1) place next → statement.level ≡ start.place.level → statement.number ≡ start.place.number → statement.name ≡ name → statement.rest.now ≡ take (next.at - (start.at + 1)) (drop (start.at + 1) tokens) → more ≡ found ++ statement ∷ [] → StatementsSoFar tokens more next
 statements_more tokens found more start next name place statement so_far inside name_is place_is at level_is number_is named rest_is more_is = record {
   all =
       so_far.all

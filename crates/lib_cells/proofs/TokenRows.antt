@@ -1,8 +1,8 @@
--- The tokens of characters, one behind the other.
+-- The tokens of characters, one after the other.
 use Rattle.std.proofs.Common.{◌≡◌, ◌++◌, ℕ, true, false, List, [], ◌∷◌, sym, ap, subst, ◌∙◌, append_assoc}
 use Rattle.std.proofs.lemmas.List.{append-nil, map_push}
-use Rattle.sdc_model.specs.LibertyTokens as grammar
-use Rattle.sdc_model.specs.LibertyTokens.{AreTokens, Character, Ending, at_end, in_quotes}
+use Rattle.library_model.specs.LibertyTokens as grammar
+use Rattle.library_model.specs.LibertyTokens.{AreTokens, Character, Ending, at_end, in_quotes}
 use Rattle.lib_cells.specs.Characters.{Shows}
 use Rattle.lib_cells.specs.declared.lexing.Lexed.{Lexed}
 use Rattle.lib_cells.specs.declared.lexing.Step.TheVariants.{End, Found, InQuotes}
@@ -11,7 +11,7 @@ use Rattle.lib_cells.specs.declared.tokens.Token.{Token}
 use Rattle.lib_cells.specs.Lexing.{AreLexed, TokenAt}
 use Rattle.lib_cells.specs.Seen.{token_seen, tokens_seen}
 
--- characters are left behind tokens; with their tokens these are all
+-- characters are left after tokens; with their tokens these are all
 pub record LeftOf (cs : List Character) (tokens : List Token) (text lines : List ℕ) : Type 0 where
   pub left : List Character
   pub shows : Shows text lines left
@@ -33,8 +33,8 @@ tokens_none text lines tokens rest none text_is lines_is = record {
 one_more : (tokens : List Token) (token : Token) (more : List grammar.Token) → tokens_seen tokens ++ (token_seen token ∷ more) ≡ tokens_seen (tokens ++ token ∷ []) ++ more
 one_more tokens token more = sym (append_assoc (tokens_seen tokens) (token_seen token ∷ []) more) ∙ ap (λ (ts : List grammar.Token). ts ++ more) (sym (map_push token_seen tokens token))
 
-pub tokens_more : (text lines : List ℕ) (tokens next : List Token) (rest behind : Rest) (token : Token) → TokensSoFar text lines tokens rest → TokenAt rest.text.now rest.lines.now (Found token behind) → next ≡ tokens ++ token ∷ [] → TokensSoFar text lines next behind
-tokens_more text lines tokens next rest behind token so_far at next_is = record {
+pub tokens_more : (text lines : List ℕ) (tokens next : List Token) (rest after : Rest) (token : Token) → TokensSoFar text lines tokens rest → TokenAt rest.text.now rest.lines.now (Found token after) → next ≡ tokens ++ token ∷ [] → TokensSoFar text lines next after
+tokens_more text lines tokens next rest after token so_far at next_is = record {
   is = λ cs shows.
       let left = so_far.is cs shows in
       let step = at.is left.left left.shows in

@@ -1,8 +1,8 @@
 -- What is known of a cell before its functions and arcs are read (Liberty, `cell`): the definitions' values of it. This
 -- project's own.
 use Rattle.std.specs.Prelude.{◌≡◌, ◌++◌, ◌+◌, ◌≤◌, ℕ, List, length, map, true, false, Option, Some, None}
-use Rattle.sdc_model.specs.LibertyCells.{NamedPin, input_places, is_left_out, pins, state_variables}
-use Rattle.sdc_model.specs.LibertyStatements.{Member}
+use Rattle.library_model.specs.LibertyCells.{NamedPin, input_places, is_left_out, pins, state_variables}
+use Rattle.library_model.specs.LibertyStatements.{Member}
 use Rattle.lib_cells.specs.FunctionNames.{names_of}
 use Rattle.bool_lanes.specs.NamedNumbers.{HasPlaces}
 use Rattle.lib_cells.specs.declared.cell_names.CellNames.{CellNames}

@@ -1,7 +1,7 @@
 -- The numbers of cells, found by their names: of several cells of one name the least number. This project's own.
 use Rattle.std.specs.Prelude.{◌≡◌, ℕ, List, [], ◌∷◌, Option, None}
-use Rattle.sdc_model.specs.LibertyCells.{name_of}
-use Rattle.sdc_model.specs.LibertyStatements.{Member}
+use Rattle.library_model.specs.LibertyCells.{name_of}
+use Rattle.library_model.specs.LibertyStatements.{Member}
 use Rattle.bool_lanes.specs.NamedNumbers.{least, number_at, number_if}
 use Rattle.bool_lanes.specs.declared.numbers.Numbers.{Numbers}
 

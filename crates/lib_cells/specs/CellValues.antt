@@ -2,10 +2,10 @@
 -- project's own.
 use Rattle.std.specs.Prelude.{ℕ, Bool, true, List, []}
 use Rattle.std.specs.List.{list_any}
-use Rattle.source_types.specs.declared.library_cells.LibCell.{LibCell}
-use Rattle.source_types.specs.declared.library_cells.LibPin.{LibPin}
-use Rattle.sdc_model.specs.LibertyCells.{NamedPin, direction_of, function_text}
-use Rattle.sdc_model.specs.LibertyStatements.{Member}
+use Rattle.pin_types.specs.declared.library_cells.LibCell.{LibCell}
+use Rattle.pin_types.specs.declared.library_cells.LibPin.{LibPin}
+use Rattle.library_model.specs.LibertyCells.{NamedPin, direction_of, function_text}
+use Rattle.library_model.specs.LibertyStatements.{Member}
 use Rattle.lib_cells.specs.FunctionNames.{function_value, is_wide_text}
 
 -- a pin of a cell

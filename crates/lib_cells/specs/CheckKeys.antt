@@ -4,10 +4,10 @@ use Rattle.std.specs.BTreeSet.{BTreeSet, contains}
 use Rattle.std.specs.Cmp.Lexicographic.{slice_cmp}
 use Rattle.std.specs.List.{list_any}
 use Rattle.std.specs.Ordering.{nat_cmp}
-use Rattle.source_types.specs.declared.library_cells.LibCheck.{LibCheck}
-use Rattle.sdc_model.specs.Keys.{side_number}
-use Rattle.sdc_model.specs.Nodes.{edge_number}
-use Rattle.sdc_model.specs.Words.{same_text}
+use Rattle.pin_types.specs.declared.library_cells.LibCheck.{LibCheck}
+use Rattle.pin_types.specs.Nodes.{side_number}
+use Rattle.pin_types.specs.Nodes.{edge_number}
+use Rattle.text_model.specs.Words.{same_text}
 
 -- the places of the pins of a check, its edge and its side
 abbrev pub check_key : LibCheck → List ℕ

@@ -6,10 +6,10 @@ use Rattle.std.specs.Option.{is_some}
 use Rattle.sdc_base.specs.declared.memory.At.{At}
 use Rattle.source_types.specs.declared.kinds.LibKind.{LibKind}
 use Rattle.source_types.specs.declared.kinds.LibKind.TheVariants.{DoubleCell, LibForm, UnknownPin}
-use Rattle.sdc_model.specs.FunctionMeaning as function
-use Rattle.sdc_model.specs.LibertyCells.{name_of, words_of}
-use Rattle.sdc_model.specs.LibertyFaults.{cell_faults, fault_at, is_other_unit, meaning_faults, unit_faults, unit_of}
-use Rattle.sdc_model.specs.LibertyStatements.{Member, Statement, groups, is_group, members, value_named}
+use Rattle.function_model.specs.FunctionMeaning as function
+use Rattle.library_model.specs.LibertyCells.{name_of, words_of}
+use Rattle.library_model.specs.LibertyFaults.{cell_faults, fault_at, is_other_unit, meaning_faults, unit_faults, unit_of}
+use Rattle.library_model.specs.LibertyStatements.{Member, Statement, groups, is_group, members, value_named}
 use Rattle.bool_lanes.specs.NamedNumbers.{number_at}
 use Rattle.bool_lanes.specs.declared.numbers.Numbers.{Numbers}
 

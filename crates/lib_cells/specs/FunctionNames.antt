@@ -1,10 +1,10 @@
 -- What a cell's functions are read with, and what they mean over the places of pins (Liberty, `function`), given the
 -- names and places in place of the cell. This project's own.
 use Rattle.std.specs.Prelude.{◌++◌, ℕ, Bool, false, List, [], ◌∷◌, filter, map, Option, Some, None, option_map, Result, Ok, Err}
-use Rattle.source_types.specs.declared.functions.Expr.{Expr}
+use Rattle.pin_types.specs.declared.functions.Expr.{Expr}
 use Rattle.source_types.specs.declared.kinds.LibKind.{LibKind}
-use Rattle.sdc_model.specs.FunctionMeaning as function
-use Rattle.sdc_model.specs.LibertyCells.{NamedPin, is_named, is_named_input, is_too_wide, other_names, placed}
+use Rattle.function_model.specs.FunctionMeaning as function
+use Rattle.library_model.specs.LibertyCells.{NamedPin, is_named, is_named_input, is_too_wide, other_names, placed}
 
 -- the names that functions are read with, given the pins and the state variables
 abbrev pub names_of : List NamedPin → List (List ℕ) → List (List ℕ)

@@ -1,8 +1,8 @@
 -- Launch arcs that end at each pin of a cell, two and more counted as two (Liberty, `timing`). This project's own.
 use Rattle.std.specs.Prelude.{◌≡◌, ◌+◌, ◌<◌, ◌==◌, ◌||◌, ◌&&◌, ℕ, Bool, false, not, List, filter, get_or, length, min, nat_le, nat_lt, set, if◌then◌else◌}
-use Rattle.source_types.specs.declared.library_cells.LibArc.{LibArc}
-use Rattle.sdc_model.specs.LibertyArcs.{direction_at, is_output}
-use Rattle.sdc_model.specs.LibertyCells.{NamedPin}
+use Rattle.pin_types.specs.declared.library_cells.LibArc.{LibArc}
+use Rattle.library_model.specs.LibertyArcs.{direction_at, is_output}
+use Rattle.library_model.specs.LibertyCells.{NamedPin}
 
 -- the number of launch arcs that end at a pin
 abbrev pub launches_to : List LibArc → ℕ → ℕ

@@ -2,9 +2,9 @@
 -- Characters are given by their bytes and their lines; what stands there is what the definitions say of the characters.
 use Rattle.std.specs.Prelude.{◌≡◌, ◌<◌, ◌+◌, ◌++◌, ◌==◌, ℕ, List, not, length}
 use Rattle.std.specs.List.{prefix_len}
-use Rattle.sdc_model.specs.LibertyTokens as grammar
-use Rattle.sdc_model.specs.LibertyTokens.{AreTokens, Character, Ending, at_end, front_behind, in_quotes, is_unfinished, last_token, quoted_front, token_front}
-use Rattle.sdc_model.specs.Row.{Front, found, stops}
+use Rattle.library_model.specs.LibertyTokens as grammar
+use Rattle.library_model.specs.LibertyTokens.{AreTokens, Character, Ending, at_end, front_after, in_quotes, is_unfinished, last_token, quoted_front, token_front}
+use Rattle.text_model.specs.Row.{Front, found, stops}
 use Rattle.lib_cells.specs.Characters.{Shows}
 use Rattle.lib_cells.specs.declared.lexing.Lexed.{Lexed}
 use Rattle.lib_cells.specs.declared.lexing.Step.{Step}
@@ -27,14 +27,14 @@ LeavesLess n End = Unit {0}
 abbrev pub before_quote : List Character → ℕ
 before_quote cs = prefix_len (λ (c : Character). not (c.byte == 34)) cs
 
--- a quoted text behind its first quote, given what parts it from the token before and the line of the quote
+-- a quoted text after its first quote, given what parts it from the token before and the line of the quote
 pub record QuotedAt (gap : List ℕ) (line : ℕ) (text lines : List ℕ) (step : Step) : Type 0 where
   pub is : (cs : List Character) → Shows text lines cs → IsFront step (quoted_front gap line cs (before_quote cs))
   pub less : LeavesLess (length text + 1) step
 
 -- a token that begins with the first character, given what parts it from the one before
-pub record BehindAt (gap : List ℕ) (text lines : List ℕ) (step : Step) : Type 0 where
-  pub is : (cs : List Character) → Shows text lines cs → IsFront step (front_behind gap cs)
+pub record AfterAt (gap : List ℕ) (text lines : List ℕ) (step : Step) : Type 0 where
+  pub is : (cs : List Character) → Shows text lines cs → IsFront step (front_after gap cs)
   pub less : LeavesLess (length text) step
 
 -- a token at the front of characters

@@ -1,6 +1,6 @@
 -- Groups of the code, with what stands in them, as the definitions of Liberty's texts have them. This project's own.
 use Rattle.std.specs.Prelude.{List, map}
-use Rattle.sdc_model.specs.LibertyStatements as liberty
+use Rattle.library_model.specs.LibertyStatements as liberty
 use Rattle.lib_cells.specs.Seen.{statement_seen, statements_seen}
 use Rattle.lib_cells.specs.declared.members.Member.{Member}
 

@@ -4,9 +4,9 @@ use Rattle.std.specs.BTreeMap.{BTreeMap, get}
 use Rattle.std.specs.Cmp.Lexicographic.{slice_cmp}
 use Rattle.std.specs.List.{prefix_len}
 use Rattle.std.specs.Ordering.{nat_cmp}
-use Rattle.source_types.specs.declared.library_cells.LibArc.{LibArc}
-use Rattle.sdc_model.specs.LibertyArcs.{is_same_pair}
-use Rattle.sdc_model.specs.Words.{same_text}
+use Rattle.pin_types.specs.declared.library_cells.LibArc.{LibArc}
+use Rattle.library_model.specs.LibertyArcs.{is_same_pair}
+use Rattle.text_model.specs.Words.{same_text}
 
 abbrev pub launch_number : Bool → ℕ
 launch_number true = 1

@@ -1,9 +1,9 @@
 -- Words for the pins and state variables of a cell (Liberty), beside the definitions. This project's own.
 use Rattle.std.specs.Prelude.{ℕ, Bool, codes, List, [], filter, map, take, if◌then◌else◌}
 use Rattle.std.specs.List.{flat_map}
-use Rattle.source_types.specs.declared.library_cells.Direction.{Direction}
-use Rattle.sdc_model.specs.LibertyCells.{NamedPin, direction_named, has_state, is_bus, named_pin}
-use Rattle.sdc_model.specs.LibertyStatements.{Member, arguments, last_value, members}
+use Rattle.pin_types.specs.declared.library_cells.Direction.{Direction}
+use Rattle.library_model.specs.LibertyCells.{NamedPin, direction_named, has_state, is_bus, named_pin}
+use Rattle.library_model.specs.LibertyStatements.{Member, arguments, last_value, members}
 use Rattle.lib_cells.specs.Seen.{statement_seen}
 use Rattle.lib_cells.specs.declared.members.Member.{Member as Held}
 

@@ -4,9 +4,9 @@ use Rattle.std.specs.Prelude.{◌≡◌, ℕ, List, Result}
 use Rattle.sdc_base.specs.declared.memory.At.{At}
 use Rattle.source_types.specs.declared.kinds.LibKind.{LibKind}
 use Rattle.source_types.specs.declared.libraries.Library.{Library}
-use Rattle.sdc_model.specs.LibertyGrammar.{IsFormed}
-use Rattle.sdc_model.specs.LibertyText.{read}
-use Rattle.sdc_model.specs.LibertyTokens.{Token}
+use Rattle.library_model.specs.LibertyGrammar.{IsFormed}
+use Rattle.library_model.specs.LibertyText.{read}
+use Rattle.library_model.specs.LibertyTokens.{Token}
 
 pub record ReadsText (text : List ℕ) (outcome : Result Library (At LibKind)) : Type 0 where
   pub formed : Result (List Token) ℕ

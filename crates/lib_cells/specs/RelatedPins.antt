@@ -2,10 +2,10 @@
 -- place of the cell. This project's own.
 use Rattle.std.specs.Prelude.{◌≡◌, ◌+◌, ◌++◌, ℕ, List, [], ◌∷◌, codes, nat_lt, if◌then◌else◌, Option, Some, None}
 use Rattle.std.specs.List.{flat_map}
-use Rattle.sdc_model.specs.LibertyArcs as liberty
-use Rattle.sdc_model.specs.LibertyCells.{NamedPin}
-use Rattle.sdc_model.specs.LibertyStatements.{Member, groups, last_value, members}
-use Rattle.sdc_model.specs.LibertyTiming.{Timing, timing_named}
+use Rattle.library_model.specs.LibertyArcs as liberty
+use Rattle.library_model.specs.LibertyCells.{NamedPin}
+use Rattle.library_model.specs.LibertyStatements.{Member, groups, last_value, members}
+use Rattle.library_model.specs.LibertyTiming.{Timing, timing_named}
 use Rattle.bool_lanes.specs.NamedNumbers.{number_at}
 use Rattle.lib_cells.specs.Timings.{timing_seen}
 use Rattle.bool_lanes.specs.declared.numbers.Numbers.{Numbers}

@@ -1,8 +1,8 @@
 -- Words for parts of what a statement of a library's text says (Liberty), beside the definitions. This project's own.
 use Rattle.std.specs.Prelude.{◌==◌, ℕ, Bool, List, filter, map}
 use Rattle.std.specs.List.{list_any}
-use Rattle.sdc_model.specs.LibertyGrammar.{sign_of}
-use Rattle.sdc_model.specs.LibertyTokens.{Token}
+use Rattle.library_model.specs.LibertyGrammar.{sign_of}
+use Rattle.library_model.specs.LibertyTokens.{Token}
 
 -- a `{` is among tokens
 abbrev pub has_brace : List Token → Bool

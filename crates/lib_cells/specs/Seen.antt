@@ -1,8 +1,8 @@
 -- Tokens and statements of the code, as the definitions of Liberty's texts have them. This project's own.
 -- Each function says for a value of the code what it is there.
 use Rattle.std.specs.Prelude.{List, map}
-use Rattle.sdc_model.specs.LibertyStatements.{Statement}
-use Rattle.sdc_model.specs.LibertyTokens as grammar
+use Rattle.library_model.specs.LibertyStatements.{Statement}
+use Rattle.library_model.specs.LibertyTokens as grammar
 use Rattle.lib_cells.specs.declared.characters.Within.{Within}
 use Rattle.lib_cells.specs.declared.characters.Within.TheVariants.{Plain, Quotes, CommentStart, Comment, CommentStar, Continued, ContinuedQuotes}
 use Rattle.lib_cells.specs.declared.statements.Statement.{Statement as Held}

@@ -2,7 +2,7 @@
 -- own.
 use Rattle.std.specs.Prelude.{◌==◌, ◌||◌, ℕ, Bool, not, List, nat_lt}
 use Rattle.std.specs.List.{prefix_len}
-use Rattle.sdc_model.specs.LibertyGrammar.{sign_of}
+use Rattle.library_model.specs.LibertyGrammar.{sign_of}
 use Rattle.lib_cells.specs.Seen.{token_seen}
 use Rattle.lib_cells.specs.declared.statements.Statement.{Statement}
 use Rattle.lib_cells.specs.declared.tokens.Token.{Token}

@@ -1,9 +1,9 @@
 -- Where statements begin among tokens, as the reader of statements finds it. This project's own words.
 -- `cut` is that of the definitions: the tokens before the first statement, and the statements.
 use Rattle.std.specs.Prelude.{◌≡◌, ◌≤◌, ◌-◌, ℕ, true, List, [], ◌∷◌, drop, length, take}
-use Rattle.sdc_model.specs.LibertyStatements as grammar
-use Rattle.sdc_model.specs.LibertyStatements.{begins, cut}
-use Rattle.sdc_model.specs.LibertyTokens as liberty
+use Rattle.library_model.specs.LibertyStatements as grammar
+use Rattle.library_model.specs.LibertyStatements.{begins, cut}
+use Rattle.library_model.specs.LibertyTokens as liberty
 use Rattle.lib_cells.specs.declared.statements.Place.{Place}
 use Rattle.lib_cells.specs.declared.statements.Start.{Start}
 use Rattle.lib_cells.specs.declared.tokens.Token.{Token}
@@ -23,7 +23,7 @@ abbrev pub Begins : grammar.Place → List liberty.Token → Type 0
 Begins place [] = Unit {0}
 Begins place (t ∷ ts) = begins place t ≡ true
 
--- the first statement at a place among tokens, or behind it
+-- the first statement at a place among tokens, or after it
 pub record IsStart (tokens : List Token) (from : ℕ) (place : grammar.Place) (start : Start) : Type 0 where
   pub before : (cut place (tokens_seen (drop from tokens))).0 ≡ tokens_seen (take (start.at - from) (drop from tokens))
   pub statements : (cut place (tokens_seen (drop from tokens))).1 ≡ (cut (place_seen start.place) (tokens_seen (drop start.at tokens))).1

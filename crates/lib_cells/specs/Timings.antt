@@ -1,5 +1,5 @@
 -- Types of timing of the code, as the definitions of `timing` groups have them (Liberty). This project's own.
-use Rattle.sdc_model.specs.LibertyTiming as liberty
+use Rattle.library_model.specs.LibertyTiming as liberty
 use Rattle.lib_cells.specs.declared.timing.Timing.{Timing}
 use Rattle.lib_cells.specs.declared.timing.Timing.TheVariants as timing
 

@@ -2,15 +2,15 @@
 
 ghost use Rattle.std.specs.Prelude.{◌≡◌, ◌<◌, [], get_or, length, map, set, IfOk, OnOk};
 ghost use Rattle.std.specs.List.{filter_map, fold};
-ghost use Rattle.sdc_model.specs.LibertyArcs as liberty;
+ghost use Rattle.library_model.specs.LibertyArcs as liberty;
 ghost use Rattle.lib_cells.specs.Pairs as pairs;
 ghost use Rattle.lib_cells.specs.RelatedPins.{related_seen};
 
 use crate::pins::Pin;
 use crate::related::Related;
 use crate::timing::arc_of;
+use pin_types::{Direction, LibArc};
 use sdc_base::NoMemory;
-use sdc_model::{Direction, LibArc};
 use std::alloc::Global;
 use std::collections::BTreeMap;
 

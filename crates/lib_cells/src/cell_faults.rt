@@ -5,10 +5,10 @@
 ghost use Rattle.std.specs.Prelude.{◌≡◌, ◌≤◌, codes, false, length, Err, IfOk};
 ghost use Rattle.std.specs.List.{list_all};
 ghost use Rattle.std.specs.Option.{is_some};
-ghost use Rattle.sdc_model.specs.FunctionMeaning as function;
-ghost use Rattle.sdc_model.specs.LibertyCells.{is_left_out};
-ghost use Rattle.sdc_model.specs.LibertyFaults.{cell_faults, fault_at as the_fault, meaning_faults};
-ghost use Rattle.sdc_model.specs.LibertyStatements.{value_named as the_value};
+ghost use Rattle.function_model.specs.FunctionMeaning as function;
+ghost use Rattle.library_model.specs.LibertyCells.{is_left_out};
+ghost use Rattle.library_model.specs.LibertyFaults.{cell_faults, fault_at as the_fault, meaning_faults};
+ghost use Rattle.library_model.specs.LibertyStatements.{value_named as the_value};
 ghost use Rattle.lib_cells.specs.CellFacts.{Describes};
 ghost use Rattle.lib_cells.specs.FirstFaults as faults;
 ghost use Rattle.lib_cells.specs.Members.{member_seen, members_seen};
@@ -21,9 +21,9 @@ use crate::pins::pin_groups;
 use crate::said::{is_group, value_named};
 use crate::statements::Statement;
 use crate::words::words_of;
-use bool_lanes::{Names, Numbers, parse};
+use bool_lanes::{Names, Numbers, parse_prepared};
 use sdc_base::{At, List, NoMemory, Stop, Text};
-use sdc_model::LibKind;
+use source_types::LibKind;
 use std::alloc::Global;
 
 /// A fault at a statement.
@@ -60,7 +60,7 @@ fn text_fault(
     requires { length names.now ≤ 60001 }
     ensures { IfOk result (λ fault. fault ≡ faults.first (meaning_faults (statement_seen statement.now) (function.meaning names.now text.now))) }
 {
-    match parse(alloc, text, names) {
+    match parse_prepared(alloc, text, names) {
         Ok(_) => Ok(None),
         Err(Stop::Refused(kind)) => Ok(refused_fault(statement, kind)),
         Err(Stop::NoMemory) => Err(NoMemory),

@@ -2,7 +2,7 @@
 
 ghost use Rattle.std.specs.Prelude.{◌≡◌, ◌++◌, ◌≤◌, ◌+◌, length, map, nat_lt, IfOk, OnOk};
 ghost use Rattle.bool_lanes.specs.NamedNumbers.{HasPlaces};
-ghost use Rattle.sdc_model.specs.LibertyCells as liberty;
+ghost use Rattle.library_model.specs.LibertyCells as liberty;
 ghost use Rattle.lib_cells.specs.CellFacts.{HasNames, KnownIf};
 ghost use Rattle.lib_cells.specs.Members.{member_seen};
 
@@ -16,7 +16,7 @@ use std::alloc::Global;
 /// The most pins and state variables of a cell that is read. This project's own limit.
 const MOST_NAMES: usize = 60_000;
 
-/// What is known of a cell that is not left out: its pins, the places of its pins and, behind them, of its state
+/// What is known of a cell that is not left out: its pins, the places of its pins and, after them, of its state
 /// variables, the names that its functions are read with, and the places of the pins that are inputs of these.
 #[derive(Drop)]
 pub struct CellNames<'a> {
@@ -48,7 +48,7 @@ fn add_names(alloc: Global, more: &[Text], names: &mut List<Text>) -> Result<(),
     Ok(())
 }
 
-/// The places of pins and, behind them, of state variables. The one error is want of memory.
+/// The places of pins and, after them, of state variables. The one error is want of memory.
 fn all_places(alloc: Global, pins: &[Pin<'_>], states: &[Text]) -> Result<Numbers, NoMemory>
     ensures { IfOk result (λ places. HasPlaces places (map (λ (pin : liberty.NamedPin). pin.name) pins.now ++ states.now)) }
 {

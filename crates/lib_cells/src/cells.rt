@@ -1,9 +1,9 @@
 //! The cells of a library (Liberty, `cell`).
 
 ghost use Rattle.std.specs.Prelude.{◌≡◌, ◌≤◌, codes, false, length, map, IfOk};
-ghost use Rattle.sdc_model.specs.LibertyArcs as liberty;
-ghost use Rattle.sdc_model.specs.LibertyCells as cells;
-ghost use Rattle.sdc_model.specs.LibertyStatements.{last_value as the_last, members as all_members};
+ghost use Rattle.library_model.specs.LibertyArcs as liberty;
+ghost use Rattle.library_model.specs.LibertyCells as cells;
+ghost use Rattle.library_model.specs.LibertyStatements.{last_value as the_last, members as all_members};
 ghost use Rattle.lib_cells.specs.CellFacts.{Describes};
 ghost use Rattle.lib_cells.specs.CellValues.{has_wide, pin_value, refused};
 ghost use Rattle.lib_cells.specs.Members.{member_seen, members_seen};
@@ -20,8 +20,8 @@ use crate::related::related_pins;
 use crate::said::arguments;
 use crate::statements::Statement;
 use bool_lanes::Names;
+use pin_types::{LibCell, LibPin};
 use sdc_base::{Duplicate, List, NoMemory, Text};
-use sdc_model::{LibCell, LibPin};
 use std::alloc::Global;
 
 /// The name of a cell: its first argument, and the empty text where there is none. The one error is want of memory.

@@ -2,18 +2,18 @@
 //! blanks.
 
 ghost use Rattle.std.specs.Prelude.{◌≡◌, ◌++◌, ◌==◌, ◌∷◌, ◌&&◌, map, IfOk, OnOk, if◌then◌else◌};
-ghost use Rattle.sdc_model.specs.Bytes.{begins_with};
-ghost use Rattle.sdc_model.specs.Continued.{continues as goes_on};
-ghost use Rattle.sdc_model.specs.LibertyTokens.{begins_comment as opens_comment, begins_continued as opens_continued, in_comment_behind, is_in_comment, plain, quotes, shown, within_behind};
+ghost use Rattle.text_model.specs.Bytes.{begins_with};
+ghost use Rattle.text_model.specs.Continued.{continues as goes_on};
+ghost use Rattle.library_model.specs.LibertyTokens.{begins_comment as opens_comment, begins_continued as opens_continued, in_comment_after, is_in_comment, plain, quotes, shown, within_after};
 ghost use Rattle.lib_cells.specs.Characters.{as_list, AreCharacters, IsAdded};
 ghost use Rattle.lib_cells.specs.Seen.{within_seen};
 
 use sdc_base::{List, NoMemory};
 use std::alloc::Global;
-use text_lines::line_behind;
+use text_lines::line_past;
 
 /// What a byte stands in.
-#[derive(Clone, Copy, Debug, PartialEq, Eq)]
+#[derive(Clone, Copy)]
 pub enum Within {
     /// None of the others.
     Plain,
@@ -23,7 +23,7 @@ pub enum Within {
     CommentStart,
     /// A comment.
     Comment,
-    /// A comment, behind a `*` in it.
+    /// A comment, after a `*` in it.
     CommentStar,
     /// The end of a continued line.
     Continued,
@@ -41,33 +41,33 @@ fn begins(text: &[u8], byte: u8) -> bool
     }
 }
 
-/// Whether a text behind a backslash begins as a continued line does: with a newline, or a carriage return and one.
+/// Whether a text after a backslash begins as a continued line does: with a newline, or a carriage return and one.
 fn continues(text: &[u8]) -> bool
     ensures { result ≡ goes_on text.now }
 {
     match text {
-        [first, behind @ ..] => *first == b'\n' || (*first == b'\r' && begins(behind, b'\n')),
+        [first, after @ ..] => *first == b'\n' || (*first == b'\r' && begins(after, b'\n')),
         [] => false,
     }
 }
 
-/// Whether a byte and the text behind it begin a comment.
-fn begins_comment(byte: u8, behind: &[u8]) -> bool
-    ensures { result ≡ opens_comment byte behind.now }
+/// Whether a byte and the text after it begin a comment.
+fn begins_comment(byte: u8, after: &[u8]) -> bool
+    ensures { result ≡ opens_comment byte after.now }
 {
-    byte == b'/' && begins(behind, b'*')
+    byte == b'/' && begins(after, b'*')
 }
 
-/// Whether a byte and the text behind it continue a line.
-fn begins_continued(byte: u8, behind: &[u8]) -> bool
-    ensures { result ≡ opens_continued byte behind.now }
+/// Whether a byte and the text after it continue a line.
+fn begins_continued(byte: u8, after: &[u8]) -> bool
+    ensures { result ≡ opens_continued byte after.now }
 {
-    byte == b'\\' && continues(behind)
+    byte == b'\\' && continues(after)
 }
 
-/// What the text behind a byte of a comment stands in, where the comment does not end with it.
-fn behind_comment(byte: u8) -> Within
-    ensures { within_seen result ≡ in_comment_behind byte }
+/// What the text after a byte of a comment stands in, where the comment does not end with it.
+fn after_comment(byte: u8) -> Within
+    ensures { within_seen result ≡ in_comment_after byte }
 {
     if byte == b'*' {
         return Within::CommentStar;
@@ -86,19 +86,19 @@ impl Within {
         )
     }
 
-    /// What a byte is as a character, if it is one, given the text behind it.
-    fn shown(self, byte: u8, behind: &[u8]) -> Option<u8>
-        ensures { as_list result ≡ shown (within_seen self) byte behind.now }
+    /// What a byte is as a character, if it is one, given the text after it.
+    fn shown(self, byte: u8, after: &[u8]) -> Option<u8>
+        ensures { as_list result ≡ shown (within_seen self) byte after.now }
     {
         match self {
             Within::Plain => {
-                if begins_comment(byte, behind) || begins_continued(byte, behind) {
+                if begins_comment(byte, after) || begins_continued(byte, after) {
                     return Some(b' ');
                 }
                 Some(byte)
             }
             Within::Quotes => {
-                if begins_continued(byte, behind) {
+                if begins_continued(byte, after) {
                     return Some(b' ');
                 }
                 Some(byte)
@@ -107,32 +107,32 @@ impl Within {
         }
     }
 
-    /// What the text behind a byte stands in.
-    fn behind(self, byte: u8, behind: &[u8]) -> Within
-        ensures { within_seen result ≡ within_behind (within_seen self) byte behind.now }
+    /// What the text after a byte stands in.
+    fn after(self, byte: u8, after: &[u8]) -> Within
+        ensures { within_seen result ≡ within_after (within_seen self) byte after.now }
     {
         match self {
-            Within::Plain => plain_behind(byte, behind),
-            Within::Quotes => quotes_behind(byte, behind),
+            Within::Plain => plain_after(byte, after),
+            Within::Quotes => quotes_after(byte, after),
             Within::CommentStart => Within::Comment,
-            Within::Comment => behind_comment(byte),
-            Within::CommentStar => star_behind(byte),
-            Within::Continued => continued_behind(byte, Within::Continued, Within::Plain),
+            Within::Comment => after_comment(byte),
+            Within::CommentStar => star_after(byte),
+            Within::Continued => continued_after(byte, Within::Continued, Within::Plain),
             Within::ContinuedQuotes => {
-                continued_behind(byte, Within::ContinuedQuotes, Within::Quotes)
+                continued_after(byte, Within::ContinuedQuotes, Within::Quotes)
             }
         }
     }
 }
 
-/// What the text behind a byte stands in that stands in nothing.
-fn plain_behind(byte: u8, behind: &[u8]) -> Within
-    ensures { within_seen result ≡ within_behind plain byte behind.now }
+/// What the text after a byte stands in that stands in nothing.
+fn plain_after(byte: u8, after: &[u8]) -> Within
+    ensures { within_seen result ≡ within_after plain byte after.now }
 {
-    if begins_comment(byte, behind) {
+    if begins_comment(byte, after) {
         return Within::CommentStart;
     }
-    if begins_continued(byte, behind) {
+    if begins_continued(byte, after) {
         return Within::Continued;
     }
     if byte == b'"' {
@@ -141,11 +141,11 @@ fn plain_behind(byte: u8, behind: &[u8]) -> Within
     Within::Plain
 }
 
-/// What the text behind a byte of a quoted text stands in.
-fn quotes_behind(byte: u8, behind: &[u8]) -> Within
-    ensures { within_seen result ≡ within_behind quotes byte behind.now }
+/// What the text after a byte of a quoted text stands in.
+fn quotes_after(byte: u8, after: &[u8]) -> Within
+    ensures { within_seen result ≡ within_after quotes byte after.now }
 {
-    if begins_continued(byte, behind) {
+    if begins_continued(byte, after) {
         return Within::ContinuedQuotes;
     }
     if byte == b'"' {
@@ -154,18 +154,18 @@ fn quotes_behind(byte: u8, behind: &[u8]) -> Within
     Within::Quotes
 }
 
-/// What the text behind a byte of a comment stands in, behind a `*`.
-fn star_behind(byte: u8) -> Within
-    ensures { within_seen result ≡ (if byte == 47 then plain else in_comment_behind byte) }
+/// What the text after a byte of a comment stands in, after a `*`.
+fn star_after(byte: u8) -> Within
+    ensures { within_seen result ≡ (if byte == 47 then plain else in_comment_after byte) }
 {
     if byte == b'/' {
         return Within::Plain;
     }
-    behind_comment(byte)
+    after_comment(byte)
 }
 
-/// What the text behind a byte stands in at the end of a continued line.
-fn continued_behind(byte: u8, continued: Within, ended: Within) -> Within
+/// What the text after a byte stands in at the end of a continued line.
+fn continued_after(byte: u8, continued: Within, ended: Within) -> Within
     ensures { within_seen result ≡ (if byte == 10 then within_seen ended else within_seen continued) }
 {
     if byte == b'\n' {
@@ -174,8 +174,8 @@ fn continued_behind(byte: u8, continued: Within, ended: Within) -> Within
     continued
 }
 
-/// The characters so far of a text, each with its line, and what the text behind them stands in.
-#[derive(Debug, Drop)]
+/// The characters so far of a text, each with its line, and what the text after them stands in.
+#[derive(Drop)]
 pub struct Characters {
     pub bytes: List<u8>,
     pub lines: List<u32>,
@@ -183,16 +183,16 @@ pub struct Characters {
 }
 
 impl Characters {
-    /// Adds a byte on a line as what it is as a character, given the text behind it. The one error is want of memory.
-    fn add(&mut self, byte: u8, behind: &[u8], line: u32) -> Result<(), NoMemory>
-        ensures { OnOk result (IsAdded self.old self.new byte behind.now line) }
+    /// Adds a byte on a line as what it is as a character, given the text after it. The one error is want of memory.
+    fn add(&mut self, byte: u8, after: &[u8], line: u32) -> Result<(), NoMemory>
+        ensures { OnOk result (IsAdded self.old self.new byte after.now line) }
     {
         let within = self.within;
-        if let Some(shown) = within.shown(byte, behind) {
+        if let Some(shown) = within.shown(byte, after) {
             self.bytes.push(shown)?;
             self.lines.push(line)?;
         }
-        self.within = within.behind(byte, behind);
+        self.within = within.after(byte, after);
         Ok(())
     }
 }
@@ -211,10 +211,10 @@ pub fn read_characters(alloc: Global, text: &[u8]) -> Result<Characters, NoMemor
     };
     let mut line = 1;
     let mut rest = text;
-    while let [byte, behind @ ..] = rest {
-        found.add(*byte, behind, line)?;
-        line = line_behind(*byte, line);
-        rest = behind;
+    while let [byte, after @ ..] = rest {
+        found.add(*byte, after, line)?;
+        line = line_past(*byte, line);
+        rest = after;
     }
     Ok(found)
 }

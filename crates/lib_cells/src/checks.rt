@@ -2,16 +2,16 @@
 
 ghost use Rattle.std.specs.Prelude.{◌≡◌, [], map, IfOk, OnOk};
 ghost use Rattle.std.specs.List.{filter_map, fold};
-ghost use Rattle.sdc_model.specs.LibertyArcs as liberty;
-ghost use Rattle.sdc_model.specs.Keys.{side_number as number_of_side};
-ghost use Rattle.sdc_model.specs.Nodes.{edge_number as number_of_edge};
+ghost use Rattle.library_model.specs.LibertyArcs as liberty;
+ghost use Rattle.pin_types.specs.Nodes.{side_number as number_of_side};
+ghost use Rattle.pin_types.specs.Nodes.{edge_number as number_of_edge};
 ghost use Rattle.lib_cells.specs.CheckKeys as keys;
 ghost use Rattle.lib_cells.specs.RelatedPins.{related_seen};
 
 use crate::related::Related;
 use crate::timing::check_of;
+use pin_types::{Edge, LibCheck, Side};
 use sdc_base::{List, NoMemory};
-use sdc_model::{Edge, LibCheck, Side};
 use std::alloc::Global;
 use std::collections::BTreeSet;
 

@@ -3,14 +3,15 @@
 
 ghost use Rattle.std.specs.Prelude.{◌≡◌, ◌≤◌, ◌++◌, ◌∷◌, [], filter, get_or, length, map, IfOk, OnOk, Err};
 ghost use Rattle.sdc_base.specs.Gives.{Gives};
-ghost use Rattle.sdc_model.specs.FunctionMeaning as function;
-ghost use Rattle.sdc_model.specs.LibertyCells as liberty;
+ghost use Rattle.function_model.specs.FunctionMeaning as function;
+ghost use Rattle.library_model.specs.LibertyCells as liberty;
 ghost use Rattle.lib_cells.specs.FunctionNames.{function_value, is_wide_text, names_of, placed_if};
 
 use crate::pins::Pin;
-use bool_lanes::{Names, parse};
+use bool_lanes::{Names, parse_prepared};
+use pin_types::{Direction, Expr};
 use sdc_base::{Duplicate, List, NoMemory, Stop, Text};
-use sdc_model::{Direction, Expr, LibKind};
+use source_types::LibKind;
 use sqlite_items::Boxed;
 use std::alloc::Global;
 
@@ -162,7 +163,7 @@ fn placed_function(
     requires { length names.now ≤ 60001 }
     ensures { IfOk result (λ e. e ≡ placed_if places.now (function.meaning names.now text.now)) }
 {
-    match parse(alloc, text, names) {
+    match parse_prepared(alloc, text, names) {
         Ok(None) => Ok(None),
         Ok(Some(expr)) => {
             let expr = placed(alloc, places, &expr)?;
@@ -197,7 +198,7 @@ pub fn is_wide(alloc: Global, names: &Names, text: &Option<Text>) -> Result<bool
     let Some(text) = text else {
         return Ok(false);
     };
-    match parse(alloc, text.as_str(), names) {
+    match parse_prepared(alloc, text.as_str(), names) {
         Ok(_) => Ok(false),
         Err(Stop::Refused(kind)) => Ok(is_too_wide(kind)),
         Err(Stop::NoMemory) => Err(NoMemory),

@@ -2,16 +2,16 @@
 
 ghost use Rattle.std.specs.Prelude.{◌≡◌};
 ghost use Rattle.std.specs.Option.{option_map};
-ghost use Rattle.sdc_model.specs.LibertyGrammar.{behind, liberty};
+ghost use Rattle.library_model.specs.LibertyGrammar.{after, liberty};
 ghost use Rattle.source_types.specs.declared.liberty_tokens.LibertySymbol.TheVariants as part;
-ghost use Rattle.sdc_model.proofs.LibertyDecides.{decides, follow};
+ghost use Rattle.library_model.proofs.LibertyDecides.{decides, follow};
 
-use sdc_model::{Gap, LibertySymbol, LibertyToken};
+use source_types::{Gap, LibertySymbol, LibertyToken};
 use token_grammar::Grammar;
 
 /// The table's row of a whole text, or further `library` groups.
 fn libraries(kind: LibertyToken) -> Option<&'static [LibertySymbol]>
-    ensures { option_map (λ symbols. symbols.now) result ≡ behind part.Libraries kind }
+    ensures { option_map (λ symbols. symbols.now) result ≡ after part.Libraries kind }
 {
     match kind {
         LibertyToken::Library(_) => Some(&[
@@ -28,7 +28,7 @@ fn libraries(kind: LibertyToken) -> Option<&'static [LibertySymbol]>
 
 /// The table's row of `(`.
 fn parenthesis(kind: LibertyToken) -> Option<&'static [LibertySymbol]>
-    ensures { option_map (λ symbols. symbols.now) result ≡ behind part.Parenthesis kind }
+    ensures { option_map (λ symbols. symbols.now) result ≡ after part.Parenthesis kind }
 {
     match kind {
         LibertyToken::Open(_) => Some(&[]),
@@ -38,7 +38,7 @@ fn parenthesis(kind: LibertyToken) -> Option<&'static [LibertySymbol]>
 
 /// The table's row of `{`.
 fn brace(kind: LibertyToken) -> Option<&'static [LibertySymbol]>
-    ensures { option_map (λ symbols. symbols.now) result ≡ behind part.Brace kind }
+    ensures { option_map (λ symbols. symbols.now) result ≡ after part.Brace kind }
 {
     match kind {
         LibertyToken::Begin => Some(&[]),
@@ -48,7 +48,7 @@ fn brace(kind: LibertyToken) -> Option<&'static [LibertySymbol]>
 
 /// The table's row of `}`.
 fn group_end(kind: LibertyToken) -> Option<&'static [LibertySymbol]>
-    ensures { option_map (λ symbols. symbols.now) result ≡ behind part.GroupEnd kind }
+    ensures { option_map (λ symbols. symbols.now) result ≡ after part.GroupEnd kind }
 {
     match kind {
         LibertyToken::End => Some(&[]),
@@ -58,7 +58,7 @@ fn group_end(kind: LibertyToken) -> Option<&'static [LibertySymbol]>
 
 /// The table's row of arguments and their `)`: names, numbers and quoted texts.
 fn arguments(kind: LibertyToken) -> Option<&'static [LibertySymbol]>
-    ensures { option_map (λ symbols. symbols.now) result ≡ behind part.Arguments kind }
+    ensures { option_map (λ symbols. symbols.now) result ≡ after part.Arguments kind }
 {
     match kind {
         LibertyToken::Library(_) | LibertyToken::Word(_) | LibertyToken::Quoted(_) => Some(&[
@@ -69,9 +69,9 @@ fn arguments(kind: LibertyToken) -> Option<&'static [LibertySymbol]>
     }
 }
 
-/// The table's row of an argument behind a comma, and those behind it.
+/// The table's row of an argument after a comma, and those after it.
 fn argument(kind: LibertyToken) -> Option<&'static [LibertySymbol]>
-    ensures { option_map (λ symbols. symbols.now) result ≡ behind part.Argument kind }
+    ensures { option_map (λ symbols. symbols.now) result ≡ after part.Argument kind }
 {
     match kind {
         LibertyToken::Library(_) | LibertyToken::Word(_) | LibertyToken::Quoted(_) => Some(&[
@@ -83,7 +83,7 @@ fn argument(kind: LibertyToken) -> Option<&'static [LibertySymbol]>
 
 /// The table's row of further arguments, parted by commas or blanks, and their `)`.
 fn more_arguments(kind: LibertyToken) -> Option<&'static [LibertySymbol]>
-    ensures { option_map (λ symbols. symbols.now) result ≡ behind part.MoreArguments kind }
+    ensures { option_map (λ symbols. symbols.now) result ≡ after part.MoreArguments kind }
 {
     match kind {
         LibertyToken::Comma => Some(&[LibertySymbol::Argument]),
@@ -100,28 +100,28 @@ fn more_arguments(kind: LibertyToken) -> Option<&'static [LibertySymbol]>
 
 /// The table's row of groups and attributes.
 fn in_group(kind: LibertyToken) -> Option<&'static [LibertySymbol]>
-    ensures { option_map (λ symbols. symbols.now) result ≡ behind part.Statements kind }
+    ensures { option_map (λ symbols. symbols.now) result ≡ after part.Statements kind }
 {
     match kind {
-        LibertyToken::Library(_) | LibertyToken::Word(_) => Some(&[LibertySymbol::BehindName]),
+        LibertyToken::Library(_) | LibertyToken::Word(_) => Some(&[LibertySymbol::AfterName]),
         _ => None,
     }
 }
 
 /// The table's row of what follows the name of a group or attribute.
-fn behind_name(kind: LibertyToken) -> Option<&'static [LibertySymbol]>
-    ensures { option_map (λ symbols. symbols.now) result ≡ behind part.BehindName kind }
+fn after_name(kind: LibertyToken) -> Option<&'static [LibertySymbol]>
+    ensures { option_map (λ symbols. symbols.now) result ≡ after part.AfterName kind }
 {
     match kind {
         LibertyToken::Colon => Some(&[LibertySymbol::Value]),
-        LibertyToken::Open(_) => Some(&[LibertySymbol::Arguments, LibertySymbol::BehindArguments]),
+        LibertyToken::Open(_) => Some(&[LibertySymbol::Arguments, LibertySymbol::AfterArguments]),
         _ => None,
     }
 }
 
 /// The table's row of what follows the arguments of a group or attribute.
-fn behind_arguments(kind: LibertyToken) -> Option<&'static [LibertySymbol]>
-    ensures { option_map (λ symbols. symbols.now) result ≡ behind part.BehindArguments kind }
+fn after_arguments(kind: LibertyToken) -> Option<&'static [LibertySymbol]>
+    ensures { option_map (λ symbols. symbols.now) result ≡ after part.AfterArguments kind }
 {
     match kind {
         LibertyToken::Begin => Some(&[
@@ -131,7 +131,7 @@ fn behind_arguments(kind: LibertyToken) -> Option<&'static [LibertySymbol]>
         ]),
         LibertyToken::Semicolon => Some(&[LibertySymbol::Statements]),
         LibertyToken::Library(Gap::LineEnd) | LibertyToken::Word(Gap::LineEnd) => Some(&[
-            LibertySymbol::BehindName,
+            LibertySymbol::AfterName,
         ]),
         _ => None,
     }
@@ -139,12 +139,12 @@ fn behind_arguments(kind: LibertyToken) -> Option<&'static [LibertySymbol]>
 
 /// The table's row of the end of a simple attribute.
 fn attribute_end(kind: LibertyToken) -> Option<&'static [LibertySymbol]>
-    ensures { option_map (λ symbols. symbols.now) result ≡ behind part.AttributeEnd kind }
+    ensures { option_map (λ symbols. symbols.now) result ≡ after part.AttributeEnd kind }
 {
     match kind {
         LibertyToken::Semicolon => Some(&[LibertySymbol::Statements]),
         LibertyToken::Library(Gap::LineEnd) | LibertyToken::Word(Gap::LineEnd) => Some(&[
-            LibertySymbol::BehindName,
+            LibertySymbol::AfterName,
         ]),
         _ => None,
     }
@@ -152,7 +152,7 @@ fn attribute_end(kind: LibertyToken) -> Option<&'static [LibertySymbol]>
 
 /// The table's row of a value: a quoted text, or names, numbers and parentheses on one line.
 fn value(kind: LibertyToken) -> Option<&'static [LibertySymbol]>
-    ensures { option_map (λ symbols. symbols.now) result ≡ behind part.Value kind }
+    ensures { option_map (λ symbols. symbols.now) result ≡ after part.Value kind }
 {
     match kind {
         LibertyToken::Quoted(_) => Some(&[LibertySymbol::AttributeEnd]),
@@ -171,7 +171,7 @@ fn value(kind: LibertyToken) -> Option<&'static [LibertySymbol]>
 
 /// The table's row of more of an expression, on its line.
 fn operands(kind: LibertyToken) -> Option<&'static [LibertySymbol]>
-    ensures { option_map (λ symbols. symbols.now) result ≡ behind part.Operands kind }
+    ensures { option_map (λ symbols. symbols.now) result ≡ after part.Operands kind }
 {
     match kind {
         LibertyToken::Library(Gap::LineEnd)
@@ -185,7 +185,7 @@ fn operands(kind: LibertyToken) -> Option<&'static [LibertySymbol]>
 
 /// The table's row of what stands in parentheses of an expression.
 fn enclosed(kind: LibertyToken) -> Option<&'static [LibertySymbol]>
-    ensures { option_map (λ symbols. symbols.now) result ≡ behind part.Enclosed kind }
+    ensures { option_map (λ symbols. symbols.now) result ≡ after part.Enclosed kind }
 {
     match kind {
         LibertyToken::Library(_) | LibertyToken::Word(_) => Some(&[LibertySymbol::Enclosed]),
@@ -217,8 +217,8 @@ impl Grammar for Liberty {
             LibertySymbol::MoreArguments => more_arguments(kind),
             LibertySymbol::Brace => brace(kind),
             LibertySymbol::Statements => in_group(kind),
-            LibertySymbol::BehindName => behind_name(kind),
-            LibertySymbol::BehindArguments => behind_arguments(kind),
+            LibertySymbol::AfterName => after_name(kind),
+            LibertySymbol::AfterArguments => after_arguments(kind),
             LibertySymbol::Value => value(kind),
             LibertySymbol::Operands => operands(kind),
             LibertySymbol::Enclosed => enclosed(kind),
@@ -232,7 +232,7 @@ impl Grammar for Liberty {
             symbol,
             LibertySymbol::MoreLibraries
                 | LibertySymbol::Statements
-                | LibertySymbol::BehindArguments
+                | LibertySymbol::AfterArguments
                 | LibertySymbol::AttributeEnd
                 | LibertySymbol::Operands
         )

@@ -1,13 +1,13 @@
 //! The kinds of tokens, as the grammar tells them apart.
 
 ghost use Rattle.std.specs.Prelude.{◌≡◌, ◌≤◌, ◌-◌, ◌^◌, IfOk};
-ghost use Rattle.sdc_model.specs.LibertyGrammar.{bare_kind as kind_of_bare, gap_of as gap_kind, kind_of_form, kinds as kinds_from, level_behind as depth_behind, sign_kind as kind_of_sign};
+ghost use Rattle.library_model.specs.LibertyGrammar.{bare_kind as kind_of_bare, gap_of as gap_kind, kind_of_form, kinds as kinds_from, level_after as depth_after, sign_kind as kind_of_sign};
 ghost use Rattle.source_types.specs.declared.liberty_tokens.Gap.TheVariants as gap;
 ghost use Rattle.lib_cells.specs.Seen.{form_seen, token_seen, tokens_seen};
 
 use crate::tokens::{Form, Token, ends_line};
 use sdc_base::NoMemory;
-use sdc_model::{Gap, LibertyToken};
+use source_types::{Gap, LibertyToken};
 use std::alloc::Global;
 
 /// The most groups that stand in one another.
@@ -27,7 +27,7 @@ fn gap_of(gap: &str) -> Gap
     Gap::Blanks
 }
 
-/// The kind of a sign by its byte, behind which so many groups are open.
+/// The kind of a sign by its byte, after which so many groups are open.
 fn sign_kind(level: usize, gap: Gap, byte: u8) -> LibertyToken
     ensures { result ≡ kind_of_sign level gap byte }
 {
@@ -74,10 +74,10 @@ fn kind_of(level: usize, token: &Token<'_>) -> LibertyToken
     }
 }
 
-/// The number of groups that are open behind a token.
-pub fn level_behind(token: &Token<'_>, level: usize) -> usize
+/// The number of groups that are open after a token.
+pub fn level_after(token: &Token<'_>, level: usize) -> usize
     requires { level ≤ 2 ^ 64 - 2 }
-    ensures { result ≡ depth_behind (token_seen token.now) level }
+    ensures { result ≡ depth_after (token_seen token.now) level }
 {
     match token.sign() {
         b'{' => level + 1,
@@ -95,7 +95,7 @@ pub fn kinds(alloc: Global, tokens: &[Token<'_>]) -> Result<Vec<LibertyToken>, N
     let mut level = 0;
     for token in tokens {
         found.push(kind_of(level, token))?;
-        level = level_behind(token, level);
+        level = level_after(token, level);
     }
     Ok(found)
 }

@@ -2,14 +2,14 @@
 
 ghost use Rattle.std.specs.Prelude.{◌≡◌, ◌+◌, ◌&&◌, min, IfOk};
 ghost use Rattle.std.specs.List.{list_any};
-ghost use Rattle.sdc_model.specs.LibertyArcs as liberty;
-ghost use Rattle.source_types.specs.declared.library_cells.LibArc.{LibArc};
+ghost use Rattle.library_model.specs.LibertyArcs as liberty;
+ghost use Rattle.pin_types.specs.declared.library_cells.LibArc.{LibArc};
 ghost use Rattle.lib_cells.specs.Launches.{AreCounts, twice_at, with_launch};
 
 use crate::arcs::{direction_at, is_output};
 use crate::pins::Pin;
+use pin_types::LibArc;
 use sdc_base::NoMemory;
-use sdc_model::LibArc;
 use std::alloc::Global;
 
 /// The count of one more launch arc, two and more being counted as two.

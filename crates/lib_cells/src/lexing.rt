@@ -1,7 +1,7 @@
-//! The tokens of characters, one behind the other.
+//! The tokens of characters, one after the other.
 
 ghost use Rattle.std.specs.Prelude.{◌≡◌, ◌<◌, ◌+◌, IfOk, length, get_or, drop};
-ghost use Rattle.lib_cells.specs.Lexing.{AreLexed, BehindAt, QuotedAt, TokenAt};
+ghost use Rattle.lib_cells.specs.Lexing.{AreLexed, AfterAt, QuotedAt, TokenAt};
 
 use crate::rest::Rest;
 use crate::scan::{bare_len, gap_len, is_bare_byte, quote_len};
@@ -9,9 +9,9 @@ use crate::tokens::{Form, Token};
 use sdc_base::NoMemory;
 use std::alloc::Global;
 
-/// What stands at the front of characters: a token, with what is left behind it; a quoted text that has no end; or the
+/// What stands at the front of characters: a token, with what is left after it; a quoted text that has no end; or the
 /// end.
-#[derive(Clone, Copy, Debug)]
+#[derive(Clone, Copy)]
 pub enum Step<'a> {
     Found(Token<'a>, Rest<'a>),
     InQuotes(Token<'a>),
@@ -35,31 +35,31 @@ fn quoted<'a>(gap: &'a str, line: u32, rest: Rest<'a>) -> Step<'a>
         });
     }
     let (text, _) = rest.split_at(len);
-    let (_, behind) = rest.split_at(len + 1);
+    let (_, after) = rest.split_at(len + 1);
     let token = Token {
         gap,
         line,
         form: Form::Quoted,
         text,
     };
-    Step::Found(token, behind)
+    Step::Found(token, after)
 }
 
 /// The token that begins with the first of some characters, given what parts it from the one before it.
-#[tactic(auto, using(crate::proofs::LexFacts::behind_end, crate::proofs::LexFacts::behind_quoted))]
-fn token_behind<'a>(gap: &'a str, rest: Rest<'a>) -> Step<'a>
-    ensures { BehindAt gap.now rest.entry.text.now rest.entry.lines.now result }
+#[tactic(auto, using(crate::proofs::LexFacts::after_end, crate::proofs::LexFacts::after_quoted))]
+fn token_after<'a>(gap: &'a str, rest: Rest<'a>) -> Step<'a>
+    ensures { AfterAt gap.now rest.entry.text.now rest.entry.lines.now result }
 {
     let line = rest.line();
     let [byte, ..] = rest.text.as_bytes() else {
         return Step::End;
     };
     if *byte == b'"' {
-        let (_, behind) = rest.split_at(1);
-        return quoted(gap, line, behind);
+        let (_, after) = rest.split_at(1);
+        return quoted(gap, line, after);
     }
     if is_bare_byte(0, *byte) {
-        let (text, behind) = rest.split_at(bare_len(rest.text.as_bytes()));
+        let (text, after) = rest.split_at(bare_len(rest.text.as_bytes()));
         let form = Form::Bare;
         return Step::Found(
             Token {
@@ -68,10 +68,10 @@ fn token_behind<'a>(gap: &'a str, rest: Rest<'a>) -> Step<'a>
                 form,
                 text,
             },
-            behind,
+            after,
         );
     }
-    let (text, behind) = rest.split_at(1);
+    let (text, after) = rest.split_at(1);
     let form = Form::Sign;
     Step::Found(
         Token {
@@ -80,7 +80,7 @@ fn token_behind<'a>(gap: &'a str, rest: Rest<'a>) -> Step<'a>
             form,
             text,
         },
-        behind,
+        after,
     )
 }
 
@@ -89,12 +89,12 @@ fn token_behind<'a>(gap: &'a str, rest: Rest<'a>) -> Step<'a>
 fn token_at<'a>(rest: Rest<'a>) -> Step<'a>
     ensures { TokenAt rest.entry.text.now rest.entry.lines.now result }
 {
-    let (gap, behind) = rest.split_at(gap_len(rest.text.as_bytes()));
-    token_behind(gap, behind)
+    let (gap, after) = rest.split_at(gap_len(rest.text.as_bytes()));
+    token_after(gap, after)
 }
 
 /// The tokens of a text, with one whose quotes have no end, and whether there is such a one.
-#[derive(Debug, Drop)]
+#[derive(Drop)]
 pub struct Lexed<'a> {
     pub tokens: Vec<Token<'a>>,
     pub unfinished: bool,
@@ -109,9 +109,9 @@ pub fn lex<'a>(alloc: Global, text: &'a str, lines: &'a [u32]) -> Result<Lexed<'
     let mut rest = Rest { text, lines };
     loop {
         match token_at(rest) {
-            Step::Found(token, behind) => {
+            Step::Found(token, after) => {
                 tokens.push(token)?;
-                rest = behind;
+                rest = after;
             }
             Step::InQuotes(token) => {
                 tokens.push(token)?;

@@ -32,3 +32,4 @@ mod units;
 mod words;
 
 pub use read::read_lib;
+pub use source_types::Library;

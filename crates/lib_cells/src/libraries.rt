@@ -2,10 +2,10 @@
 
 ghost use Rattle.std.specs.Prelude.{◌≡◌, ◌++◌, codes, map, pos, IfOk, OnOk};
 ghost use Rattle.sdc_base.specs.Gives.{Gives};
-ghost use Rattle.sdc_model.specs.LibertyArcs.{lib_cell as the_cell};
-ghost use Rattle.sdc_model.specs.LibertyFaults.{faults_of};
-ghost use Rattle.sdc_model.specs.LibertyStatements.{groups as all_groups, members as all_members};
-ghost use Rattle.sdc_model.specs.LibertyText.{library_if as the_library, unit_in as unit_or_none};
+ghost use Rattle.library_model.specs.LibertyArcs.{lib_cell as the_cell};
+ghost use Rattle.library_model.specs.LibertyFaults.{faults_of};
+ghost use Rattle.library_model.specs.LibertyStatements.{groups as all_groups, members as all_members};
+ghost use Rattle.library_model.specs.LibertyText.{library_if as the_library, unit_in as unit_or_none};
 ghost use Rattle.lib_cells.specs.FirstFaults.{cells_in};
 ghost use Rattle.lib_cells.specs.Members.{member_seen, members_seen};
 ghost use Rattle.lib_cells.specs.CellNumbers.{HasCells};
@@ -17,8 +17,9 @@ use crate::members::{Member, groups, members};
 use crate::statements::Statement;
 use crate::units::first_unit;
 use bool_lanes::Numbers;
+use pin_types::LibCell;
 use sdc_base::{At, List, NoMemory, Stop};
-use sdc_model::{LibCell, LibKind, Library};
+use source_types::{LibKind, Library};
 use std::alloc::Global;
 
 /// Adds members. The one error is want of memory.

@@ -4,7 +4,7 @@
 //! Each function here has want of memory as its one error.
 
 ghost use Rattle.std.specs.Prelude.{◌≡◌, codes, IfOk};
-ghost use Rattle.sdc_model.specs.LibertyStatements.{value_named as the_value};
+ghost use Rattle.library_model.specs.LibertyStatements.{value_named as the_value};
 ghost use Rattle.lib_cells.specs.FirstFaults as faults;
 ghost use Rattle.lib_cells.specs.Members.{member_seen, members_seen};
 ghost use Rattle.lib_cells.specs.Seen.{statement_seen};
@@ -17,7 +17,7 @@ use crate::statements::Statement;
 use crate::units::{is_other_unit, unit_named, unit_of};
 use bool_lanes::Numbers;
 use sdc_base::{At, NoMemory};
-use sdc_model::LibKind;
+use source_types::LibKind;
 use std::alloc::Global;
 
 /// The fault of a time unit, if a statement is one, at its attribute: that it is none that is taken.

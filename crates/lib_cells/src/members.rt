@@ -1,7 +1,7 @@
 //! What stands in a group of a library's text (Liberty).
 
 ghost use Rattle.std.specs.Prelude.{◌≡◌, ◌≤◌, length, IfOk};
-ghost use Rattle.sdc_model.specs.LibertyStatements as liberty;
+ghost use Rattle.library_model.specs.LibertyStatements as liberty;
 ghost use Rattle.lib_cells.specs.Members.{members_seen};
 ghost use Rattle.lib_cells.specs.Seen.{statements_seen};
 ghost use Rattle.lib_cells.specs.Spans.{deeper_len};
@@ -12,7 +12,7 @@ use sdc_base::{NoMemory, Text};
 use std::alloc::Global;
 
 /// A group or an attribute, and the statements in it.
-#[derive(Clone, Copy, Debug)]
+#[derive(Clone, Copy)]
 pub struct Member<'a> {
     pub statement: &'a Statement<'a>,
     pub inside: &'a [Statement<'a>],
@@ -29,7 +29,7 @@ fn within_len(level: usize, statements: &[Statement<'_>]) -> usize
         .count()
 }
 
-/// Of the statements behind one of a level, those that stand in it.
+/// Of the statements after one of a level, those that stand in it.
 #[tactic(auto, using(crate::proofs::SpanFacts::within_taken))]
 fn within<'a>(level: usize, statements: &'a [Statement<'a>]) -> &'a [Statement<'a>]
     ensures { statements_seen result.now ≡ liberty.within level (statements_seen statements.now) }

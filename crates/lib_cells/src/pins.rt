@@ -2,8 +2,8 @@
 
 ghost use Rattle.std.specs.Prelude.{◌≡◌, ◌++◌, map, take, IfOk, OnOk};
 ghost use Rattle.std.specs.List.{list_any};
-ghost use Rattle.sdc_model.specs.LibertyCells as liberty;
-ghost use Rattle.sdc_model.specs.LibertyStatements.{arguments as all_arguments, members as all_members, Member as Group};
+ghost use Rattle.library_model.specs.LibertyCells as liberty;
+ghost use Rattle.library_model.specs.LibertyStatements.{arguments as all_arguments, members as all_members, Member as Group};
 ghost use Rattle.lib_cells.specs.Members.{member_seen, members_seen};
 ghost use Rattle.lib_cells.specs.Pins.{direction_said, is_bus_part, pins_in as pins_of_groups, states_among as the_states, states_in};
 ghost use Rattle.lib_cells.specs.Seen.{statement_seen, statements_seen};
@@ -11,8 +11,8 @@ ghost use Rattle.lib_cells.specs.Seen.{statement_seen, statements_seen};
 use crate::members::{Member, groups, last_value, members};
 use crate::said::{arguments, is_group};
 use crate::statements::Statement;
+use pin_types::Direction;
 use sdc_base::{Duplicate, List, NoMemory, Text};
-use sdc_model::Direction;
 use std::alloc::Global;
 use std::marker::Model;
 
@@ -26,7 +26,7 @@ pub struct Pin<'a> {
 
 impl<'a> Model for Pin<'a> {
     ghost use Rattle.std.specs.Prelude.{◌≡◌};
-    ghost use Rattle.sdc_model.specs.LibertyCells.{NamedPin, direction_of};
+    ghost use Rattle.library_model.specs.LibertyCells.{NamedPin, direction_of};
     ghost use Rattle.lib_cells.specs.Members.{member_seen};
 
     ghost Value = { NamedPin };

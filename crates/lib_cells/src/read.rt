@@ -3,8 +3,8 @@
 ghost use Rattle.std.specs.Prelude.{◌≡◌, ◌||◌, Ok};
 ghost use Rattle.std.specs.Str.{IsUtf8};
 ghost use Rattle.sdc_base.specs.Gives.{Gives, Meets};
-ghost use Rattle.sdc_model.specs.LibertyText.{ReadsLibrary, read};
-ghost use Rattle.sdc_model.specs.LibertyTokens.{IsLexed, is_in_comment};
+ghost use Rattle.library_model.specs.LibertyText.{ReadsLibrary, read};
+ghost use Rattle.library_model.specs.LibertyTokens.{IsLexed, is_in_comment};
 ghost use Rattle.lib_cells.specs.Reading.{ReadsText};
 ghost use Rattle.lib_cells.specs.Seen.{tokens_seen, within_seen};
 
@@ -15,14 +15,14 @@ use crate::recognition::broken_line;
 use crate::statements::statements;
 use crate::tokens::Token;
 use sdc_base::{At, Stop};
-use sdc_model::{LibKind, Library};
+use source_types::{LibKind, Library};
 use std::alloc::Global;
 use text_lines::no_text_line;
 
 /// The library of a file's bytes (Liberty).
 ///
 /// Refused as `NotText` with the line of the first byte that is no UTF-8; as `LibForm` with the line of the first token
-/// that no library's text has behind those before it, or the last line where the text ends too early; else with the
+/// that no library's text has after those before it, or the last line where the text ends too early; else with the
 /// first fault in the order of the text, on its line. What is read and what is refused is this project's own rule.
 pub fn read_lib(alloc: Global, bytes: &[u8]) -> Result<Library, Stop<At<LibKind>>>
     ensures { Meets result (ReadsLibrary bytes.now) }

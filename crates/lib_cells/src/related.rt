@@ -2,8 +2,8 @@
 
 ghost use Rattle.std.specs.Prelude.{◌≡◌, ◌++◌, ◌≤◌, length, map, IfOk, OnOk};
 ghost use Rattle.std.specs.List.{flat_map};
-ghost use Rattle.sdc_model.specs.LibertyArcs.{words_if as the_words};
-ghost use Rattle.sdc_model.specs.LibertyStatements.{members as all_members};
+ghost use Rattle.library_model.specs.LibertyArcs.{words_if as the_words};
+ghost use Rattle.library_model.specs.LibertyStatements.{members as all_members};
 ghost use Rattle.lib_cells.specs.Members.{member_seen, members_seen};
 ghost use Rattle.bool_lanes.specs.NamedNumbers.{number_at};
 ghost use Rattle.lib_cells.specs.RelatedPins.{pin_if, related_all, related_in, related_seen, related_to, related_word, related_words, Says};

@@ -2,8 +2,8 @@
 
 ghost use Rattle.std.specs.Prelude.{◌≡◌, ◌≤◌, ◌==◌, ◌||◌, length, not, IfOk};
 ghost use Rattle.std.specs.List.{list_any, prefix_len};
-ghost use Rattle.sdc_model.specs.LibertyGrammar.{sign_of};
-ghost use Rattle.sdc_model.specs.LibertyStatements as liberty;
+ghost use Rattle.library_model.specs.LibertyGrammar.{sign_of};
+ghost use Rattle.library_model.specs.LibertyStatements as liberty;
 ghost use Rattle.lib_cells.specs.Said.{has_brace as is_brace_among, plain_texts};
 ghost use Rattle.lib_cells.specs.Seen.{statement_seen, tokens_seen};
 ghost use Rattle.lib_cells.specs.Spans.{goes_on, is_brace, stays_open};
@@ -105,7 +105,7 @@ fn value_text(alloc: Global, tokens: &[Token<'_>]) -> Result<Text, NoMemory>
     Ok(text)
 }
 
-/// The value of a simple attribute, given the tokens behind its name. The one error is want of memory.
+/// The value of a simple attribute, given the tokens after its name. The one error is want of memory.
 fn value_in(alloc: Global, tokens: &[Token<'_>]) -> Result<Option<Text>, NoMemory>
     ensures { IfOk result (λ value. value ≡ liberty.value_in (tokens_seen tokens.now)) }
 {

@@ -2,7 +2,7 @@
 
 ghost use Rattle.std.specs.Prelude.{◌≡◌, ◌≤◌, ◌-◌, ◌^◌};
 ghost use Rattle.std.specs.List.{prefix_len};
-ghost use Rattle.sdc_model.specs.LibertyTokens.{brackets_behind as depth_behind, is_bare_byte as bare_byte, is_sign as sign_byte, parts as parting_byte};
+ghost use Rattle.library_model.specs.LibertyTokens.{brackets_after as depth_after, is_bare_byte as bare_byte, is_sign as sign_byte, parts as parting_byte};
 ghost use Rattle.lib_cells.specs.Scan.{bare_bytes, is_no_quote};
 
 /// Whether a byte parts tokens, and words within one: a space, a tab, a carriage return or a newline.
@@ -26,10 +26,10 @@ pub fn is_bare_byte(brackets: usize, byte: u8) -> bool
     !(parts(byte) || is_sign(byte) || byte == b'"' || (byte == b':' && brackets == 0))
 }
 
-/// The number of square brackets that are open behind a byte.
-fn brackets_behind(byte: u8, brackets: usize) -> usize
+/// The number of square brackets that are open after a byte.
+fn brackets_after(byte: u8, brackets: usize) -> usize
     requires { brackets ≤ 2 ^ 64 - 2 }
-    ensures { result ≡ depth_behind byte brackets }
+    ensures { result ≡ depth_after byte brackets }
 {
     if byte == b'[' {
         return brackets + 1;
@@ -65,7 +65,7 @@ pub fn bare_len(text: &[u8]) -> usize
         if !is_bare_byte(brackets, text[len]) {
             return len;
         }
-        brackets = brackets_behind(text[len], brackets);
+        brackets = brackets_after(text[len], brackets);
         len += 1;
     }
     len

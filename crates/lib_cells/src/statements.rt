@@ -1,18 +1,18 @@
 //! The groups and attributes of a library's text, in the order of the text.
 
 ghost use Rattle.std.specs.Prelude.{◌≡◌, ◌<◌, ◌≤◌, ◌+◌, ◌-◌, ◌^◌, IfOk, length};
-ghost use Rattle.sdc_model.specs.LibertyStatements.{begins as begins_at, first_place, parentheses_behind as depth_behind, place_behind, statements_of};
+ghost use Rattle.library_model.specs.LibertyStatements.{begins as begins_at, first_place, parentheses_after as depth_after, place_after, statements_of};
 ghost use Rattle.lib_cells.specs.Seen.{statements_seen, token_seen, tokens_seen};
 ghost use Rattle.lib_cells.specs.Starts.{IsFew, IsStart, place_seen};
 
-use crate::kinds::level_behind;
+use crate::kinds::level_after;
 use crate::tokens::{Form, Token};
 use sdc_base::NoMemory;
 use std::alloc::Global;
 
 /// A group or an attribute: the number of groups around it, its number in the text, counted from 0, its name, and the
-/// tokens behind the name up to the next group or attribute.
-#[derive(Clone, Copy, Debug)]
+/// tokens after the name up to the next group or attribute.
+#[derive(Clone, Copy)]
 pub struct Statement<'a> {
     pub level: usize,
     pub number: usize,
@@ -20,9 +20,9 @@ pub struct Statement<'a> {
     pub rest: &'a [Token<'a>],
 }
 
-/// Where a token stands: behind which sign, if it is one, in how many parentheses and groups, and behind how many
+/// Where a token stands: after which sign, if it is one, in how many parentheses and groups, and after how many
 /// statements.
-#[derive(Clone, Copy, Debug)]
+#[derive(Clone, Copy)]
 pub struct Place {
     pub sign: u8,
     pub parentheses: usize,
@@ -54,26 +54,26 @@ impl Place {
                 || (token.is_first_on_line() && self.parentheses == 0 && self.sign != b':'))
     }
 
-    /// Where the token behind one stands.
-    fn behind(self, token: &Token<'_>) -> Place
+    /// Where the token after one stands.
+    fn after(self, token: &Token<'_>) -> Place
         requires parentheses { self.parentheses ≤ 2 ^ 64 - 2 }
         requires level { self.level ≤ 2 ^ 64 - 2 }
         requires number { self.number ≤ 2 ^ 64 - 2 }
-        ensures { place_seen result ≡ place_behind (place_seen self) (token_seen token.now) }
+        ensures { place_seen result ≡ place_after (place_seen self) (token_seen token.now) }
     {
         Place {
             sign: token.sign(),
-            parentheses: parentheses_behind(token, self.parentheses),
-            level: level_behind(token, self.level),
-            number: number_behind(self, token),
+            parentheses: parentheses_after(token, self.parentheses),
+            level: level_after(token, self.level),
+            number: number_after(self, token),
         }
     }
 }
 
-/// The number of parentheses that are open behind a token.
-fn parentheses_behind(token: &Token<'_>, parentheses: usize) -> usize
+/// The number of parentheses that are open after a token.
+fn parentheses_after(token: &Token<'_>, parentheses: usize) -> usize
     requires { parentheses ≤ 2 ^ 64 - 2 }
-    ensures { result ≡ depth_behind (token_seen token.now) parentheses }
+    ensures { result ≡ depth_after (token_seen token.now) parentheses }
 {
     match token.sign() {
         b'(' => parentheses + 1,
@@ -82,10 +82,10 @@ fn parentheses_behind(token: &Token<'_>, parentheses: usize) -> usize
     }
 }
 
-/// The number of statements that begin before the token behind one.
-fn number_behind(place: Place, token: &Token<'_>) -> usize
+/// The number of statements that begin before the token after one.
+fn number_after(place: Place, token: &Token<'_>) -> usize
     requires { place.number ≤ 2 ^ 64 - 2 }
-    ensures { result ≡ (place_behind (place_seen place) (token_seen token.now)).number }
+    ensures { result ≡ (place_after (place_seen place) (token_seen token.now)).number }
 {
     if place.begins(token) {
         return place.number + 1;
@@ -95,13 +95,13 @@ fn number_behind(place: Place, token: &Token<'_>) -> usize
 
 /// Where a statement begins: the place of its name among the tokens, counted from 0, or their number where none
 /// begins.
-#[derive(Clone, Copy, Debug)]
+#[derive(Clone, Copy)]
 pub struct Start {
     pub at: usize,
     pub place: Place,
 }
 
-/// The first statement that begins at a place among tokens or behind it.
+/// The first statement that begins at a place among tokens or after it.
 #[tactic(auto, using(crate::proofs::StartFacts::start_none, crate::proofs::StartFacts::start_found, crate::proofs::StartFacts::start_all))]
 fn next_start(tokens: &[Token<'_>], from: usize, place: Place) -> Start
     requires within { from ≤ length tokens.now }
@@ -116,7 +116,7 @@ fn next_start(tokens: &[Token<'_>], from: usize, place: Place) -> Start
         }
         start = Start {
             at: start.at + 1,
-            place: start.place.behind(token),
+            place: start.place.after(token),
         };
     }
     start
@@ -134,7 +134,7 @@ pub fn statements<'a>(
     let mut start = next_start(tokens, 0, Place::first());
     while start.at < tokens.len() {
         let name = tokens[start.at];
-        let next = next_start(tokens, start.at + 1, start.place.behind(&name));
+        let next = next_start(tokens, start.at + 1, start.place.after(&name));
         let rest = &tokens[start.at + 1..next.at];
         found.push(Statement {
             level: start.place.level,

@@ -1,11 +1,11 @@
 //! What a `timing` group of a library pin says (Liberty, `timing_type` and `timing_sense`).
 
 ghost use Rattle.std.specs.Prelude.{◌≡◌, Some, None};
-ghost use Rattle.sdc_model.specs.LibertyTiming as liberty;
+ghost use Rattle.library_model.specs.LibertyTiming as liberty;
 ghost use Rattle.lib_cells.specs.Timings.{timing_seen};
 
+use pin_types::{Edge, LibArc, LibCheck, Side};
 use sdc_base::Text;
-use sdc_model::{Edge, LibArc, LibCheck, Side};
 
 /// What a `timing` group gives by its type: cell arcs by sense, to a rise of the output or not and to a fall or not; a
 /// launch arc from an edge of the clock; a check at an edge of the clock; or nothing.

@@ -2,12 +2,12 @@
 
 ghost use Rattle.std.specs.Prelude.{◌≡◌, ◌==◌};
 ghost use Rattle.std.specs.List.{list_any};
-ghost use Rattle.sdc_model.specs.LibertyGrammar.{sign_of};
-ghost use Rattle.sdc_model.specs.LibertyStatements.{is_first_on_line as first_on_line};
+ghost use Rattle.library_model.specs.LibertyGrammar.{sign_of};
+ghost use Rattle.library_model.specs.LibertyStatements.{is_first_on_line as first_on_line};
 ghost use Rattle.lib_cells.specs.Seen.{token_seen};
 
 /// The form of a token.
-#[derive(Clone, Copy, Debug, PartialEq, Eq)]
+#[derive(Clone, Copy, PartialEq, Eq)]
 pub enum Form {
     /// A name or a number.
     Bare,
@@ -19,7 +19,7 @@ pub enum Form {
 
 /// A token: what parts it from the one before it, its line, counted from 1, and its text, of a quoted one what stands
 /// in the quotes. A comment and the end of a continued line are one blank in it.
-#[derive(Clone, Copy, Debug)]
+#[derive(Clone, Copy)]
 pub struct Token<'a> {
     pub gap: &'a str,
     pub line: u32,

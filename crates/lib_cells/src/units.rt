@@ -1,7 +1,7 @@
 //! The time unit of a library (Liberty, `time_unit`). Which units are taken is this project's own.
 
 ghost use Rattle.std.specs.Prelude.{◌≡◌, IfOk};
-ghost use Rattle.sdc_model.specs.LibertyFaults as liberty;
+ghost use Rattle.library_model.specs.LibertyFaults as liberty;
 ghost use Rattle.lib_cells.specs.Members.{member_seen, members_seen};
 
 use crate::members::{Member, last_value, members};

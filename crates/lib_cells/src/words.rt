@@ -1,7 +1,7 @@
 //! The words of a text, parted by blanks (Liberty, `related_pin`).
 
 ghost use Rattle.std.specs.Prelude.{◌≡◌, ◌++◌, [], ◌∷◌, IfOk, OnOk};
-ghost use Rattle.sdc_model.specs.LibertyCells as liberty;
+ghost use Rattle.library_model.specs.LibertyCells as liberty;
 
 use crate::scan::parts;
 use sdc_base::{List, NoMemory};

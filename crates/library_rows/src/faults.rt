@@ -2,7 +2,7 @@
 
 use lib_cells::read_lib;
 use sdc_base::{At, Stop};
-use sdc_model::LibKind;
+use source_types::LibKind;
 use std::alloc::Global;
 use std::process::Abort;
 

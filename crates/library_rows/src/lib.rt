@@ -4,8 +4,6 @@
 #![tactic(auto)]
 
 #[cfg(test)]
-mod breaks;
-#[cfg(test)]
 mod cells;
 #[cfg(test)]
 mod faults;
@@ -13,5 +11,7 @@ mod faults;
 mod limits;
 #[cfg(test)]
 mod shown;
+#[cfg(test)]
+mod syntax_errors;
 #[cfg(test)]
 mod timings;

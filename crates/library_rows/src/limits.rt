@@ -2,7 +2,7 @@
 
 use crate::faults::refused_text;
 use sdc_base::NoMemory;
-use sdc_model::LibKind;
+use source_types::LibKind;
 use std::alloc::Global;
 use std::test::Fail;
 
@@ -12,7 +12,7 @@ fn wrapped(
     times: usize,
     before: &str,
     inner: &str,
-    behind: &str,
+    after: &str,
 ) -> Result<String, NoMemory> {
     let mut text = String::new(alloc);
     for _ in 0..times {
@@ -20,7 +20,7 @@ fn wrapped(
     }
     text.push_str(inner)?;
     for _ in 0..times {
-        text.push_str(behind)?;
+        text.push_str(after)?;
     }
     Ok(text)
 }
@@ -47,8 +47,8 @@ fn groups_as_deep_as_they_go(rt: HostRuntime) -> Result<(), Fail> {
 fn many_pins(alloc: Global, pins: usize) -> Result<String, NoMemory> {
     let names = wrapped(alloc, pins, "A ", "", "")?;
     let before = "library (a) { cell (X) { ff (P, Q) { } pin (";
-    let behind = ") { function : B; } } }";
-    let text = format!(in alloc; "{before}{names}{behind}")?;
+    let after = ") { function : B; } } }";
+    let text = format!(in alloc; "{before}{names}{after}")?;
     Ok(text)
 }
 

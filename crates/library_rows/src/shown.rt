@@ -1,8 +1,9 @@
 //! Libraries as short texts, for tests: a cell's name, its pins, its arcs and its checks, pins by their places.
 
 use lib_cells::read_lib;
+use pin_types::{Expr, LibArc, LibCell, LibCheck, LibPin};
 use sdc_base::{NoMemory, Stop};
-use sdc_model::{Expr, LibArc, LibCell, LibCheck, LibPin, Library};
+use source_types::Library;
 use std::alloc::Global;
 
 /// A word where something holds.

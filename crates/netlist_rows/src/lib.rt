@@ -4,11 +4,11 @@
 #![tactic(auto)]
 
 #[cfg(test)]
-mod module_breaks;
+mod module_errors;
 #[cfg(test)]
 mod name_faults;
 #[cfg(test)]
-mod operand_breaks;
+mod operand_errors;
 #[cfg(test)]
 mod refused;
 #[cfg(test)]

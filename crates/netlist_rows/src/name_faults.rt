@@ -2,7 +2,7 @@
 //! counts them, and texts beside them that are taken.
 
 use crate::refused::all_refused;
-use sdc_model::VerilogKind;
+use source_types::VerilogKind;
 
 /// Names and their declarations.
 static NAMES: [(&str, u32, VerilogKind); 36] = [

@@ -1,7 +1,7 @@
 //! What bytes are refused as, for tests.
 
 use sdc_base::{At, Stop};
-use sdc_model::VerilogKind;
+use source_types::VerilogKind;
 use std::alloc::Global;
 use std::process::Abort;
 use verilog_net::read_verilog;
@@ -27,7 +27,7 @@ fn refused_text(rt: &impl Abort, alloc: Global, text: &str, line: u32, kind: Ver
     refused(rt, alloc, text.as_bytes(), line, kind);
 }
 
-/// Sees that texts break on these lines, or not where the line is 0.
+/// Sees that texts have their first syntax error on these lines, or none where the line is 0.
 pub fn broken(rt: &impl Abort, alloc: Global, rows: &[(&str, u32)]) {
     for (text, line) in rows {
         refused_text(rt, alloc, text, *line, VerilogKind::VerilogForm);

@@ -2,11 +2,11 @@
 //! lines, and its assignments.
 
 use sdc_base::{NoMemory, Stop};
-use sdc_model::{Assign, Bit, Instance, Link, Links, Module, Port, Range, Wire};
+use source_types::{Assign, Bit, Instance, Link, Links, Module, Port, Range, Wire};
 use std::alloc::Global;
 use verilog_net::read_verilog;
 
-/// A bit behind a blank: its name with its index, or its value.
+/// A bit after a blank: its name with its index, or its value.
 fn show_bit(alloc: Global, shown: &mut String, bit: &Bit) -> Result<(), NoMemory> {
     let text = match bit {
         Bit::Net {
@@ -74,7 +74,7 @@ fn show_ordered(
     Ok(())
 }
 
-/// Named connections, each behind the name of its port.
+/// Named connections, each after the name of its port.
 fn show_named(alloc: Global, shown: &mut String, links: &[Link]) -> Result<(), NoMemory> {
     for link in links {
         let text = format!(in alloc; " .{}(", link.port.as_str())?;
@@ -150,7 +150,7 @@ fn show_module(alloc: Global, shown: &mut String, module: &Module) -> Result<(),
     show_assigns(alloc, shown, module)
 }
 
-/// Modules, one behind the other.
+/// Modules, one after the other.
 fn show_modules(alloc: Global, modules: &[Module]) -> Result<String, NoMemory> {
     let mut shown = String::new(alloc);
     for module in modules {

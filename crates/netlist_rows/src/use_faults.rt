@@ -2,7 +2,7 @@
 //! counts them, and texts beside them that are taken.
 
 use crate::refused::{all_refused, refused};
-use sdc_model::VerilogKind;
+use source_types::VerilogKind;
 
 /// What is used of nets, and the order of faults.
 static USES: [(&str, u32, VerilogKind); 45] = [

@@ -2,7 +2,7 @@
 
 use crate::shown::show_text;
 use sdc_base::NoMemory;
-use sdc_model::{Bit, Module};
+use source_types::{Bit, Module};
 use std::alloc::Global;
 use std::process::Abort;
 use std::test::Fail;

@@ -4,9 +4,10 @@ ghost use Rattle.std.specs.Prelude.{List, ℕ, codes};
 ghost use Rattle.std.specs.String.{string_bytes};
 
 use sdc_base::{At, List, NoMemory, Stop, Text};
-use sdc_model::{Kind, Object, SdcKind, Value};
+use source_types::{Kind, SdcKind};
 use std::alloc::Global;
 use tcl_eval::{Commands, eval};
+use timing_types::{Object, Value};
 
 /// A host that writes down each call as `LINE:NAME(VALUES)`, a list of objects as `@` and its length. `clocks` gives
 /// two clocks with the names `p` and `q`, `none` no object, `refuse` is refused, `number` gives 0, and every other name
@@ -95,7 +96,7 @@ fn answer(alloc: Global, name: &Text, values: &String) -> Result<Value, NoMemory
     Ok(Value::Text(Text::from(text)))
 }
 
-/// The calls of a script, and the line and the kind of its fault behind them.
+/// The calls of a script, and the line and the kind of its fault after them.
 pub fn show_run(alloc: Global, script: &str) -> Result<String, NoMemory> {
     let mut host = Recording {
         alloc,

@@ -5,7 +5,7 @@ use sdc_base::NoMemory;
 use std::alloc::Global;
 use std::test::Fail;
 
-/// Scripts with the calls that the host got, and the fault behind them.
+/// Scripts with the calls that the host got, and the fault after them.
 #[test]
 fn calls_with_their_lines_and_values(rt: HostRuntime) -> Result<(), Fail> {
     for (script, wanted) in [

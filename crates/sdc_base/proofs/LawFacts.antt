@@ -24,7 +24,7 @@ number_of_above p m e h =
     rw (sym e, t) refl
 
 pub denominator_pos : (p : Parts) → 0 < denominator p
-denominator_pos p = ten_pos (length (decimals_in p.behind) + lowered p.exponent)
+denominator_pos p = ten_pos (length (decimals_in p.fraction) + lowered p.exponent)
 
 pub Means_with : (p : Parts) (m : ℕ) → IsNearest (numerator p) (denominator p) m → m < 10 ^ 24 → Means p (with_magnitude p m)
 Means_with p m n h =

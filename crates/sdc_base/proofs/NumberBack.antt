@@ -31,7 +31,7 @@ abbrev pub number_parts : Bool → Bool → ℕ → Parts
 number_parts negative whole m = record {
   sign = time_sign negative;
   before = decimal (m / 10 ^ 9);
-  behind = fraction whole (m % 10 ^ 9);
+  fraction = fraction whole (m % 10 ^ 9);
   exponent = None;
 }
 
@@ -62,7 +62,7 @@ length-decimals r =
 pub record Figures (m : ℕ) : Type 0 where
   pub small : m / 10 ^ 9 < 2 ^ 64
   pub before : all_ascii_digits (decimal (m / 10 ^ 9)) ≡ true
-  pub behind : all_ascii_digits (decimals_of (m % 10 ^ 9)) ≡ true
+  pub fraction : all_ascii_digits (decimals_of (m % 10 ^ 9)) ≡ true
   pub some : 0 < length (decimal (m / 10 ^ 9))
   pub few : length (decimal (m / 10 ^ 9)) ≤ 20
   pub short : length (decimals_of (m % 10 ^ 9)) ≤ 9
@@ -73,7 +73,7 @@ Figures_of m h =
     record {
       small = small;
       before = digits_decimal own (m / 10 ^ 9) small;
-      behind = all_digits-decimals (m % 10 ^ 9) (mod_below m (10 ^ 9) (lit< tt));
+      fraction = all_digits-decimals (m % 10 ^ 9) (mod_below m (10 ^ 9) (lit< tt));
       some = decimal_nonempty (m / 10 ^ 9) small;
       few = length-decimal-le 20 (m / 10 ^ 9) (lit< tt) (omega arith) small;
       short = length-decimals (m % 10 ^ 9);
@@ -90,7 +90,7 @@ is_number-number b false m d =
     let n = length (decimal (m / 10 ^ 9)) + length (decimals_of (m % 10 ^ 9)) in
     let f : nat_lt 0 n ≡ true = grind (arith, nat_tests, d.some) in
     let g : nat_le n 30 ≡ true = grind (arith, nat_tests, d.few, d.short) in
-    rw (f, g, d.before, d.behind) refl
+    rw (f, g, d.before, d.fraction) refl
 
 -- ---- the value
 
@@ -99,7 +99,7 @@ zero_at_end q h =
     digits_value_after-append 0 (decimal q) (48 ∷ []) ∙ ap (λ x. digits_value_after 10 x (48 ∷ [])) (digits_value-decimal own q h)
     ∙ omega arith
 
--- the digits before and behind the point, read as one number
+-- the digits before and after the point, read as one number
 pub digits-number : (m : ℕ) → m / 10 ^ 9 < 2 ^ 64 → digits_value 10 (decimal (m / 10 ^ 9) ++ decimals_of (m % 10 ^ 9)) * 10 ^ 9 ≡ m * 10 ^ length (decimals_of (m % 10 ^ 9))
 digits-number m h =
     by_bool (λ b. digits_value 10 (decimal (m / 10 ^ 9) ++ cond b (48 ∷ []) (places 9 (m % 10 ^ 9) (10 ^ 9))) * 10 ^ 9 ≡ m * 10 ^ length (cond b (48 ∷ []) (places 9 (m % 10 ^ 9) (10 ^ 9))))
@@ -165,6 +165,6 @@ number_text_is_plain n is =
     record {
       bytes =
           list_all-append is_time_byte front (whole ++ tail) (minus_bytes (is_negative n.scaled))
-          (list_all-append is_time_byte whole tail (time_bytes whole d.before) (fraction_bytes n.whole (m % 10 ^ 9) d.behind));
+          (list_all-append is_time_byte whole tail (time_bytes whole d.before) (fraction_bytes n.whole (m % 10 ^ 9) d.fraction));
       some = rw (length-append front (whole ++ tail), length-append whole tail) (omega (arith, d.some));
     }

@@ -36,14 +36,14 @@ abbrev pub time_sign : Bool → Sign
 time_sign true = minus
 time_sign false = unsigned
 
-abbrev pub behind_point : ℕ → ℕ → Option (List ℕ)
-behind_point r u = cond (nat_eq r 0) None (Some (places 6 r u))
+abbrev pub after_point : ℕ → ℕ → Option (List ℕ)
+after_point r u = cond (nat_eq r 0) None (Some (places 6 r u))
 
 abbrev pub time_parts : Bool → ℕ → ℕ → Parts
 time_parts negative m u = record {
   sign = time_sign negative;
   before = decimal (m / u);
-  behind = behind_point (m % u) u;
+  fraction = after_point (m % u) u;
   exponent = None;
 }
 
@@ -55,13 +55,13 @@ pub time_sign_minus : (b : Bool) → is_minus (time_sign b) ≡ b
 time_sign_minus true = refl
 time_sign_minus false = refl
 
-pub point_text-behind : (r u : ℕ) → point_text (behind_point r u) ≡ decimals_text r u
-point_text-behind r u =
+pub point_text-fraction : (r u : ℕ) → point_text (after_point r u) ≡ decimals_text r u
+point_text-fraction r u =
     by_bool (λ b. point_text (cond b None (Some (places 6 r u))) ≡ cond b [] (46 ∷ places 6 r u)) (nat_eq r 0) (λ _. refl) (λ _. refl)
 
-pub decimals-behind : (r u : ℕ) → decimals_in (behind_point r u) ≡ places 6 r u
-decimals-behind zero u = sym (places_none 6 u)
-decimals-behind (suc r) u = let e : nat_eq (suc r) 0 ≡ false = grind (arith, nat_tests) in rw e refl
+pub decimals-fraction : (r u : ℕ) → decimals_in (after_point r u) ≡ places 6 r u
+decimals-fraction zero u = sym (places_none 6 u)
+decimals-fraction (suc r) u = let e : nat_eq (suc r) 0 ≡ false = grind (arith, nat_tests) in rw e refl
 
 pub spelling-time : (fs unit : ℤ) → spelling (time_parts (is_negative fs) (unsigned_abs fs) (unsigned_abs unit)) ≡ time_text_of fs unit
 unfolding time_text_of
@@ -69,13 +69,13 @@ spelling-time fs unit =
     let m = unsigned_abs fs in
     let u = unsigned_abs unit in
     let e = time_sign_text (is_negative fs) in
-    let f = point_text-behind (m % u) u in
-    rw (append-nil {A = ℕ} (point_text (behind_point (m % u) u)), e, f) refl
+    let f = point_text-fraction (m % u) u in
+    rw (append-nil {A = ℕ} (point_text (after_point (m % u) u)), e, f) refl
 
 -- how long the text's digits are, and that they are digits
 pub record Digits (m u : ℕ) : Type 0 where
   pub before : all_ascii_digits (decimal (m / u)) ≡ true
-  pub behind : all_ascii_digits (places 6 (m % u) u) ≡ true
+  pub fraction : all_ascii_digits (places 6 (m % u) u) ≡ true
   pub some : 0 < length (decimal (m / u))
   pub few : length (decimal (m / u)) ≤ 20
   pub short : length (places 6 (m % u) u) ≤ 6
@@ -89,7 +89,7 @@ Digits_of m u h l =
     let small : m / u < 2 ^ 64 = omega arith in
     record {
       before = digits_decimal own (m / u) small;
-      behind = all_digits-places 6 (m % u) u (mod_below m u h);
+      fraction = all_digits-places 6 (m % u) u (mod_below m u h);
       some = decimal_nonempty (m / u) small;
       few = length-decimal-le 20 (m / u) (lit< tt) (omega arith) small;
       short = length-places 6 (m % u) u;
@@ -97,11 +97,11 @@ Digits_of m u h l =
 
 pub is_number-time : (b : Bool) (m u : ℕ) → Digits m u → is_number (time_parts b m u) ≡ true
 is_number-time b m u d =
-    let e = decimals-behind (m % u) u in
+    let e = decimals-fraction (m % u) u in
     let n = length (decimal (m / u)) + length (places 6 (m % u) u) in
     let f : nat_lt 0 n ≡ true = grind (arith, nat_tests, d.some) in
     let g : nat_le n 30 ≡ true = grind (arith, nat_tests, d.few, d.short) in
-    rw (e, f, g, d.before, d.behind) refl
+    rw (e, f, g, d.before, d.fraction) refl
 
 -- a quotient's digits and its decimals, read as one number
 pub digits-quotient : (k m u : ℕ) → 0 < u → m / u < 2 ^ 64 → (m % u * 10 ^ k) % u ≡ 0 → digits_value 10 (decimal (m / u) ++ places k (m % u) u) * u ≡ m * 10 ^ length (places k (m % u) u)
@@ -122,7 +122,7 @@ regroup d u g m l h = sym (mul_assoc d u g) ∙ ap (λ x. x * g) h ∙ (grind ar
 
 pub magnitude-time : (b : Bool) (m u g : ℕ) → Unit_of u g → m < 2 ^ 64 → m * g ≡ nearest (numerator (time_parts b m u)) (denominator (time_parts b m u))
 magnitude-time b m u g k l =
-    let e = decimals-behind (m % u) u in
+    let e = decimals-fraction (m % u) u in
     let d = digits_value 10 (decimal (m / u) ++ places 6 (m % u) u) in
     let p = 10 ^ length (places 6 (m % u) u) in
     let t = digits-time m u k.pos l (k.even (m % u)) in
@@ -237,7 +237,7 @@ time_text_bytes fs unit g k h =
     record {
       bytes =
           list_all-append is_time_byte front (whole ++ tail) (minus_bytes (is_negative fs))
-          (list_all-append is_time_byte whole tail (time_bytes whole d.before) (decimals_bytes (m % u) u d.behind));
+          (list_all-append is_time_byte whole tail (time_bytes whole d.before) (decimals_bytes (m % u) u d.fraction));
       some = rw (length-append front (whole ++ tail), length-append whole tail) (omega (arith, d.some));
     }
 

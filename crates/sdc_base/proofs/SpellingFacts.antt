@@ -7,7 +7,7 @@ use Rattle.std.proofs.lemmas.List.{take-append-drop, append-nil}
 use Rattle.std.specs.Char.{is_ascii_digit}
 use Rattle.std.specs.List.{prefix_len, take_while}
 use Rattle.std.specs.Str.{all_ascii_digits}
-use Rattle.sdc_base.specs.Number.{Sign, unsigned, plus, minus, Exponent, Parts, sign_text, point_text, exponent_text, spelling, decimals_in, is_exponent, is_count, is_number, sign_of, after_sign, after_digits, behind_of, after_behind, exponent_of, parts_of}
+use Rattle.sdc_base.specs.Number.{Sign, unsigned, plus, minus, Exponent, Parts, sign_text, point_text, exponent_text, spelling, decimals_in, is_exponent, is_count, is_number, sign_of, after_sign, after_digits, after_of, after_after, exponent_of, parts_of}
 use Rattle.sdc_base.proofs.CaseFacts.{by_bool}
 use Rattle.sdc_base.proofs.DigitFacts.{digit_is, all_digits_first}
 
@@ -27,9 +27,9 @@ pub sign_text-sign_of : (text : List ℕ) → sign_text (sign_of text) ++ after_
 sign_text-sign_of [] = refl
 sign_text-sign_of (b ∷ bs) = sign_first b bs
 
-pub point_text-behind_of : (text : List ℕ) → point_text (behind_of text) ++ after_behind text ≡ text
-point_text-behind_of [] = refl
-point_text-behind_of (b ∷ bs) =
+pub point_text-after_of : (text : List ℕ) → point_text (after_of text) ++ after_after text ≡ text
+point_text-after_of [] = refl
+point_text-after_of (b ∷ bs) =
     by_bool (λ v. point_text (cond v (Some (take_while is_ascii_digit bs)) None) ++ cond v (after_digits bs) (b ∷ bs) ≡ b ∷ bs) (eqb b 46)
     (λ e. let m : 46 ≡ b = grind (arith, nat_tests) in rw digits-split (ap (λ x. x ∷ bs) m)) (λ _. refl)
 
@@ -42,7 +42,7 @@ unfolding parts_of
 spelling-parts_of text =
     let u = after_sign text in
     let r = after_digits u in
-    rw exponent_text-exponent_of (rw (point_text-behind_of r) (rw (digits-split u) (sign_text-sign_of text)))
+    rw exponent_text-exponent_of (rw (point_text-after_of r) (rw (digits-split u) (sign_text-sign_of text)))
 
 -- ---- parts that fit are those of the text that they spell
 
@@ -50,7 +50,7 @@ spelling-parts_of text =
 pub record NotLed (text : List ℕ) : Type 0 where
   pub digit : prefix_len is_ascii_digit text ≡ 0
   pub sign : sign_of text ≡ unsigned
-  pub point : behind_of text ≡ None
+  pub point : after_of text ≡ None
 
 pub exponent_mark : (e : Exponent) → is_exponent (Some e) ≡ true → (e.mark ≡ 101) ⊎ (e.mark ≡ 69)
 exponent_mark e h = grind (arith, nat_tests)
@@ -111,34 +111,34 @@ exponent_of-exponent_text (Some e) h =
     let s = rw append-nil at (sign_of-digits e.digits [] d refl) in
     rw (sign_of-sign_text e.sign e.digits s, after_sign-sign_text e.sign e.digits s) refl
 
-pub is_number_parts : (p : Parts) → is_number p ≡ true → (is_exponent p.exponent ≡ true) × (is_count (length p.before + length (decimals_in p.behind)) ≡ true) × (all_ascii_digits p.before ≡ true) × (all_ascii_digits (decimals_in p.behind) ≡ true)
+pub is_number_parts : (p : Parts) → is_number p ≡ true → (is_exponent p.exponent ≡ true) × (is_count (length p.before + length (decimals_in p.fraction)) ≡ true) × (all_ascii_digits p.before ≡ true) × (all_ascii_digits (decimals_in p.fraction) ≡ true)
 is_number_parts p h =
-    let f = and_parts _ (all_ascii_digits (decimals_in p.behind)) h in
+    let f = and_parts _ (all_ascii_digits (decimals_in p.fraction)) h in
     let g = and_parts _ (all_ascii_digits p.before) f.0 in
-    let e = and_parts (is_exponent p.exponent) (is_count (length p.before + length (decimals_in p.behind))) g.0 in
+    let e = and_parts (is_exponent p.exponent) (is_count (length p.before + length (decimals_in p.fraction))) g.0 in
     (e.0, e.1, g.1, f.1)
 
-pub parts-same : (p : Parts) (s : Sign) (b : List ℕ) (d : Option (List ℕ)) (e : Option Exponent) → s ≡ p.sign → b ≡ p.before → d ≡ p.behind → e ≡ p.exponent → (let q : Parts = record { sign = s; before = b; behind = d; exponent = e } in q) ≡ p
+pub parts-same : (p : Parts) (s : Sign) (b : List ℕ) (d : Option (List ℕ)) (e : Option Exponent) → s ≡ p.sign → b ≡ p.before → d ≡ p.fraction → e ≡ p.exponent → (let q : Parts = record { sign = s; before = b; fraction = d; exponent = e } in q) ≡ p
 parts-same p s b d e i j k l = rw (i, j, k, l) refl
 
--- the text behind the digits before the point begins with no digit and no sign
-pub record Behind (d : Option (List ℕ)) (e : Option Exponent) : Type 0 where
+-- the text after the digits before the point begins with no digit and no sign
+pub record After (d : Option (List ℕ)) (e : Option Exponent) : Type 0 where
   pub digit : prefix_len is_ascii_digit (point_text d ++ exponent_text e) ≡ 0
   pub sign : sign_of (point_text d ++ exponent_text e) ≡ unsigned
-  pub found : behind_of (point_text d ++ exponent_text e) ≡ d
-  pub after : after_behind (point_text d ++ exponent_text e) ≡ exponent_text e
+  pub found : after_of (point_text d ++ exponent_text e) ≡ d
+  pub after : after_after (point_text d ++ exponent_text e) ≡ exponent_text e
 
-pub after_behind-none : (text : List ℕ) → behind_of text ≡ None → after_behind text ≡ text
-after_behind-none [] h = refl
-after_behind-none (b ∷ bs) h =
+pub after_after-none : (text : List ℕ) → after_of text ≡ None → after_after text ≡ text
+after_after-none [] h = refl
+after_after-none (b ∷ bs) h =
     by_bool (λ v. cond v (Some (take_while is_ascii_digit bs)) None ≡ None → cond v (after_digits bs) (b ∷ bs) ≡ b ∷ bs) (eqb b 46)
     (λ _ k. cc) (λ _ k. refl) h
 
-pub Behind_parts : (d : Option (List ℕ)) (e : Option Exponent) → is_exponent e ≡ true → all_ascii_digits (decimals_in d) ≡ true → Behind d e
-Behind_parts None e h a =
+pub Fraction_parts : (d : Option (List ℕ)) (e : Option Exponent) → is_exponent e ≡ true → all_ascii_digits (decimals_in d) ≡ true → After d e
+Fraction_parts None e h a =
     let n = NotLed-exponent e h in
-    record { digit = n.digit; sign = n.sign; found = n.point; after = after_behind-none (exponent_text e) n.point }
-Behind_parts (Some ds) e h a =
+    record { digit = n.digit; sign = n.sign; found = n.point; after = after_after-none (exponent_text e) n.point }
+Fraction_parts (Some ds) e h a =
     let n = NotLed-exponent e h in
     record {
       digit = refl;
@@ -151,13 +151,13 @@ pub parts_of-spelling : (p : Parts) → is_number p ≡ true → parts_of (spell
 unfolding parts_of
 parts_of-spelling p h =
     let f = is_number_parts p h in
-    let b = Behind_parts p.behind p.exponent f.0 f.3 in
-    let r = point_text p.behind ++ exponent_text p.exponent in
+    let b = Fraction_parts p.fraction p.exponent f.0 f.3 in
+    let r = point_text p.fraction ++ exponent_text p.exponent in
     let u = p.before ++ r in
     let s = sign_of-digits p.before r f.2 b.sign in
     let a : after_sign (spelling p) ≡ u = after_sign-sign_text p.sign u s in
     let t : after_digits (after_sign (spelling p)) ≡ r = ap after_digits a ∙ after_digits-digits p.before r f.2 b.digit in
     parts-same p _ _ _ _ (sign_of-sign_text p.sign u s)
     (ap (take_while is_ascii_digit) a ∙ take_while-digits p.before r f.2 b.digit)
-    (ap behind_of t ∙ b.found)
-    (ap (λ l. exponent_of (after_behind l)) t ∙ ap exponent_of b.after ∙ exponent_of-exponent_text p.exponent f.0)
+    (ap after_of t ∙ b.found)
+    (ap (λ l. exponent_of (after_after l)) t ∙ ap exponent_of b.after ∙ exponent_of-exponent_text p.exponent f.0)

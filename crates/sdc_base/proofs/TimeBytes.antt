@@ -66,7 +66,7 @@ decimals_is r u h =
     let e : nat_eq r 0 ≡ false = grind (arith, nat_tests) in
     rw e refl
 
--- a point and places, behind what stands before the point
+-- a point and places, after what stands before the point
 pub decimals_written : (old new : List ℕ) (r u : ℕ) → length old ≡ 28 → 0 < r → new ≡ take 22 (set old 21 46) ++ places 6 r u
     → new ≡ take 21 old ++ decimals_text r u
 decimals_written old new r u long some is =

@@ -1,5 +1,5 @@
 -- What holds while bytes are written piece by piece.
-use Rattle.std.proofs.Common.{◌≡◌, ◌+◌, ◌++◌, ℕ, List, take, drop, Option, Some, None, Ok, Err, sym, ap, ◌∙◌, arith}
+use Rattle.std.proofs.Common.{◌≡◌, ◌+◌, ◌<◌, ◌++◌, ℕ, List, take, drop, Option, Some, None, Ok, Err, sym, ap, ◌∙◌, arith, length, length-drop}
 use Rattle.std.proofs.lemmas.Grind.{common_steps}
 use Rattle.std.proofs.Math.Seq.{take-add}
 use Rattle.sdc_base.specs.declared.outside.Channel.{Channel}
@@ -31,11 +31,14 @@ more_written channel bytes piece done count (Some before) (Some now) None p so_f
 more_written channel bytes piece done count (Some before) (Some now) (Some after) p so_far next =
     next ∙ (ap (λ (xs : List ℕ). appended channel (take count xs) now) p ∙ (ap (λ (w : Written). appended channel (take count (drop done bytes)) w) so_far ∙ (appended_twice channel (take done bytes) (take count (drop done bytes)) before ∙ ap (λ (xs : List ℕ). appended channel xs before) (front_more bytes done count))))
 
-pub refused_write : (channel : Channel) (bytes piece : List ℕ) (done : ℕ) (refusal : Refusal) (before now after : Option Written) → WrittenSoFar channel (take done bytes) before now → Writes channel piece (Err refusal) now after → WritesAll channel bytes (Err refusal) before after
-refused_write channel bytes piece done refusal None None None so_far next = tt
-refused_write channel bytes piece done refusal None None (Some after) so_far next = next
-refused_write channel bytes piece done refusal None (Some now) after so_far next = absurd so_far
-refused_write channel bytes piece done refusal (Some before) None after so_far next = absurd so_far
-refused_write channel bytes piece done refusal (Some before) (Some now) None so_far next = absurd next
-refused_write channel bytes piece done refusal (Some before) (Some now) (Some after) so_far next =
-    (take done bytes, drop done bytes, grind (arith, common_steps), next ∙ so_far)
+left : (bytes : List ℕ) (done : ℕ) → done < length bytes → 0 < length (drop done bytes)
+left bytes done less = rw (length-drop done bytes) (omega (arith, less))
+
+pub refused_write : (channel : Channel) (bytes piece : List ℕ) (done : ℕ) (refusal : Refusal) (before now after : Option Written) → done < length bytes → WrittenSoFar channel (take done bytes) before now → Writes channel piece (Err refusal) now after → WritesAll channel bytes (Err refusal) before after
+refused_write channel bytes piece done refusal None None None less so_far next = tt
+refused_write channel bytes piece done refusal None None (Some after) less so_far next = next
+refused_write channel bytes piece done refusal None (Some now) after less so_far next = absurd so_far
+refused_write channel bytes piece done refusal (Some before) None after less so_far next = absurd so_far
+refused_write channel bytes piece done refusal (Some before) (Some now) None less so_far next = absurd next
+refused_write channel bytes piece done refusal (Some before) (Some now) (Some after) less so_far next =
+    (take done bytes, drop done bytes, grind (arith, common_steps), left bytes done less, next ∙ so_far)

@@ -1,6 +1,6 @@
 -- What an object of the trait Outputs means, where it tells it, and what each call does to that. This project's own.
--- There are three channels; the file behind Merged has the name that the last `create` gave it.
-use Rattle.std.specs.Prelude.{◌≡◌, ◌++◌, ℕ, List, [], take, Option, Some, None, Result, Ok, Err}
+-- There are three channels; the file after Merged has the name that the last `create` gave it.
+use Rattle.std.specs.Prelude.{◌≡◌, ◌<◌, ◌++◌, ℕ, List, [], length, take, Option, Some, None, Result, Ok, Err}
 use Rattle.sdc_base.specs.declared.outside.Channel.{Channel}
 use Rattle.sdc_base.specs.declared.outside.Channel.TheVariants.{Report, Faults, Merged}
 use Rattle.sdc_base.specs.declared.outside.Refusal.{Refusal}
@@ -34,12 +34,12 @@ Writes channel piece answer (Some before) None = ⊥
 Writes channel piece (Ok count) (Some before) (Some after) = after ≡ appended channel (take count piece) before
 Writes channel piece (Err _) (Some before) (Some after) = after ≡ before
 
--- a front of the bytes stands at the end of the channel
+-- a front of the bytes stands at the end of the channel, and not all of them
 abbrev pub AppendsFront : Channel → List ℕ → Written → Written → Type 0
 AppendsFront channel bytes before after =
-    (front rest : List ℕ) × (bytes ≡ front ++ rest) × (after ≡ appended channel front before)
+    (front rest : List ℕ) × (bytes ≡ front ++ rest) × (0 < length rest) × (after ≡ appended channel front before)
 
--- `write_all`: all bytes stand at the end of the channel, or after a refusal a front of them
+-- `write_all`: all bytes stand at the end of the channel, or after a refusal a front of them, and not all
 abbrev pub WritesAll : Channel → List ℕ → Result Unit Refusal → Option Written → Option Written → Type 0
 WritesAll channel bytes answer None None = Unit {0}
 WritesAll channel bytes answer None (Some after) = ⊥

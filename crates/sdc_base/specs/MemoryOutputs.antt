@@ -29,7 +29,7 @@ call_fails it = is_listed it.fail (next_count it.calls)
 
 -- what MemOutputs tells then, and the count of its faults
 pub record WritesLeave (written : Written) (count : ℕ) (after : MemOutputs) : Type 0 where
-  pub told : mem_written after ≡ written
+  pub contents : mem_written after ≡ written
   pub faults : after.faults ≡ count
 
 -- how a `create` of MemOutputs ends, by its answer
@@ -78,7 +78,7 @@ SureCreates name (Err refusal.NoMemory) before after = after ≡ before
 -- the whole piece stands at the end of the channel
 pub record SureTaken (channel : Channel) (piece : List ℕ) (count : ℕ) (before after : SureOutputs) : Type 0 where
   pub many : count ≡ length piece
-  pub told : sure_written after ≡ appended channel piece (sure_written before)
+  pub contents : sure_written after ≡ appended channel piece (sure_written before)
 
 -- `write` of SureOutputs: want of memory changes nothing
 abbrev pub SureWrites : Channel → List ℕ → Result ℕ Refusal → SureOutputs → SureOutputs → Type 0

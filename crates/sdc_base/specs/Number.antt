@@ -30,11 +30,11 @@ pub record Exponent : Type 0 where
   pub sign : Sign
   pub digits : List ℕ
 
--- what a number's text is made of: the digits before the point, and those behind it where there is a point
+-- what a number's text is made of: the digits before the point, and those after it where there is a point
 pub record Parts : Type 0 where
   pub sign : Sign
   pub before : List ℕ
-  pub behind : Option (List ℕ)
+  pub fraction : Option (List ℕ)
   pub exponent : Option Exponent
 
 abbrev pub sign_text : Sign → List ℕ
@@ -52,7 +52,7 @@ exponent_text (Some e) = e.mark ∷ (sign_text e.sign ++ e.digits)
 
 -- the text that the parts make
 abbrev pub spelling : Parts → List ℕ
-spelling p = sign_text p.sign ++ (p.before ++ (point_text p.behind ++ exponent_text p.exponent))
+spelling p = sign_text p.sign ++ (p.before ++ (point_text p.fraction ++ exponent_text p.exponent))
 
 abbrev pub decimals_in : Option (List ℕ) → List ℕ
 decimals_in None = []
@@ -72,8 +72,8 @@ is_count n = nat_lt 0 n && nat_le n 30
 -- the parts of a number: digits, not too many, and an exponent that is not too great
 abbrev pub is_number : Parts → Bool
 is_number p =
-    is_exponent p.exponent && is_count (length p.before + length (decimals_in p.behind))
-    && all_ascii_digits p.before && all_ascii_digits (decimals_in p.behind)
+    is_exponent p.exponent && is_count (length p.before + length (decimals_in p.fraction))
+    && all_ascii_digits p.before && all_ascii_digits (decimals_in p.fraction)
 
 abbrev pub Fits : Parts → Type 0
 Fits p = IsTrue (is_number p)
@@ -94,10 +94,10 @@ lowered (Some e) = if is_minus e.sign then digits_value 10 e.digits else 0
 
 -- the magnitude is this number divided by the next, in units of 10 ^ -9
 abbrev pub numerator : Parts → ℕ
-numerator p = digits_value 10 (p.before ++ decimals_in p.behind) * 10 ^ (9 + raised p.exponent)
+numerator p = digits_value 10 (p.before ++ decimals_in p.fraction) * 10 ^ (9 + raised p.exponent)
 
 abbrev pub denominator : Parts → ℕ
-denominator p = 10 ^ (length (decimals_in p.behind) + lowered p.exponent)
+denominator p = 10 ^ (length (decimals_in p.fraction) + lowered p.exponent)
 
 -- r is n / d rounded to the nearest whole number, and up at a tie
 abbrev pub IsNearest : ℕ → ℕ → ℕ → Type 0
@@ -120,7 +120,7 @@ number_with negative whole (Err e) = Err e
 
 -- whole where there is neither a point nor an exponent
 abbrev pub is_whole : Parts → Bool
-is_whole p = is_none p.behind && is_none p.exponent
+is_whole p = is_none p.fraction && is_none p.exponent
 
 -- the number that the parts mean, rounded past the ninth decimal, ties away from zero
 abbrev pub number_of : Parts → Result Number NumberError
@@ -138,14 +138,14 @@ after_sign (b ∷ bs) = if b == 43 || b == 45 then bs else b ∷ bs
 abbrev pub after_digits : List ℕ → List ℕ
 after_digits text = drop (prefix_len is_ascii_digit text) text
 
--- the digits behind a point, where the text begins with a point
-abbrev pub behind_of : List ℕ → Option (List ℕ)
-behind_of [] = None
-behind_of (b ∷ bs) = if b == 46 then Some (take_while is_ascii_digit bs) else None
+-- the digits after a point, where the text begins with a point
+abbrev pub after_of : List ℕ → Option (List ℕ)
+after_of [] = None
+after_of (b ∷ bs) = if b == 46 then Some (take_while is_ascii_digit bs) else None
 
-abbrev pub after_behind : List ℕ → List ℕ
-after_behind [] = []
-after_behind (b ∷ bs) = if b == 46 then after_digits bs else b ∷ bs
+abbrev pub after_after : List ℕ → List ℕ
+after_after [] = []
+after_after (b ∷ bs) = if b == 46 then after_digits bs else b ∷ bs
 
 -- all of the text as an exponent, whatever its letter
 abbrev pub exponent_of : List ℕ → Option Exponent
@@ -159,8 +159,8 @@ parts_of text =
     record {
       sign = sign_of text;
       before = take_while is_ascii_digit (after_sign text);
-      behind = behind_of rest;
-      exponent = exponent_of (after_behind rest);
+      fraction = after_of rest;
+      exponent = exponent_of (after_after rest);
     }
 
 -- the number that the text means, or its first fault: the form before the range

@@ -20,7 +20,7 @@ abbrev pub power_with : Bool → ℕ → Power
 power_with negative magnitude =
     record { raised = if negative then 0 else magnitude; lowered = if negative then magnitude else 0 }
 
--- the magnitude of a number with these digits, so many of them behind its point, and an exponent that does so much
+-- the magnitude of a number with these digits, so many of them after its point, and an exponent that does so much
 abbrev pub magnitude_of : ℕ → ℕ → Power → Result ℕ NumberError
 magnitude_of digits decimals power =
     in_range (nearest (digits * 10 ^ (9 + power.raised)) (10 ^ (decimals + power.lowered)))

@@ -19,12 +19,12 @@ unfoldable pub time_of : Number → ℤ → Result ℤ NumberError
 time_of n unit =
     time_within (is_negative n.scaled) (nearest (unsigned_abs n.scaled * unsigned_abs unit) (10 ^ 9))
 
--- the digits of r / u behind the point, at most so many, by long division; they end where nothing is left
+-- the digits of r / u after the point, at most so many, by long division; they end where nothing is left
 unfoldable pub places : ℕ → ℕ → ℕ → List ℕ
 places zero r u = []
 places (suc k) r u = if r == 0 then [] else (48 + r * 10 / u) ∷ places k (r * 10 % u) u
 
--- the point and what stands behind it, where there is anything left; a unit has at most six places
+-- the point and what stands after it, where there is anything left; a unit has at most six places
 abbrev pub decimals_text : ℕ → ℕ → List ℕ
 decimals_text r u = if r == 0 then [] else 46 ∷ places 6 r u
 

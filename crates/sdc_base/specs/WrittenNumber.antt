@@ -9,7 +9,7 @@ use Rattle.sdc_base.specs.Time.{minus_text, places}
 abbrev pub decimals_of : ℕ → List ℕ
 decimals_of r = if r == 0 then 48 ∷ [] else places 9 r (10 ^ 9)
 
--- the point and what stands behind it, where the number is not whole by its form
+-- the point and what stands after it, where the number is not whole by its form
 abbrev pub fraction_text : Bool → ℕ → List ℕ
 fraction_text whole r = if whole then [] else 46 ∷ decimals_of r
 

@@ -23,7 +23,7 @@ pub(crate) const SCALE: u128 = 1_000_000_000;
 const LONGEST: u128 = 10_000_000_000_000_000;
 
 /// Why a number could not be read or computed.
-#[derive(Debug, Clone, Copy, PartialEq, Eq, PartialOrd, Ord, Error)]
+#[derive(Debug, Clone, Copy, PartialEq, Eq, Error)]
 pub enum NumberError {
     /// The text has not the form of a number.
     #[error("not a number")]
@@ -38,7 +38,7 @@ pub enum NumberError {
 
 /// The number `scaled / 10^9`, of magnitude below 10^15. `whole` says that it was written or computed as
 /// a whole number, and then it has no decimals.
-#[derive(Debug, Clone, Copy, PartialEq, Eq, PartialOrd, Ord)]
+#[derive(Debug, Clone, Copy, PartialEq, Eq)]
 pub struct Fixed {
     /// The number in units of 10^-9.
     pub scaled: i128,
@@ -58,6 +58,12 @@ impl Model for Fixed {
     ghost inverse = { λ n. record { scaled = n.scaled; whole = n.whole } };
 }
 
+impl Duplicate for NumberError {
+    fn copy(&self, _alloc: Global) -> Result<NumberError, NoMemory> {
+        Ok(*self)
+    }
+}
+
 impl Duplicate for Fixed {
     fn copy(&self, _alloc: Global) -> Result<Fixed, NoMemory> {
         Ok(*self)
@@ -75,14 +81,14 @@ impl Fixed {
     {
         let (negative, unsigned) = split_sign(text.as_bytes());
         let (before, rest) = split_digits(unsigned);
-        let (behind, last) = split_decimals(rest);
+        let (fraction, last) = split_decimals(rest);
         let Some(power) = exponent_in(last) else {
             return Err(NumberError::NumberForm);
         };
-        if !is_count(before, behind) {
+        if !is_count(before, fraction) {
             return Err(NumberError::NumberForm);
         }
-        let magnitude = scale(digits_value(before, behind), behind.len(), power)?;
+        let magnitude = scale(digits_value(before, fraction), fraction.len(), power)?;
         Ok(Fixed {
             scaled: with_sign(negative, magnitude),
             whole: rest.is_empty(),

@@ -7,29 +7,19 @@
 #![tactic(auto)]
 
 mod arithmetic;
-#[cfg(test)]
-mod arithmetic_tests;
 mod counting;
-#[cfg(test)]
-mod division_tests;
 mod duplicate;
 mod files;
 mod fixed;
 mod fixed_text;
-#[cfg(test)]
-mod fixed_text_tests;
 mod lists;
 mod mem_inputs;
 mod mem_outputs;
 mod memory;
 mod memory_forms;
 mod number_laws;
-#[cfg(test)]
-mod number_tests;
 mod number_text;
 mod outside;
-#[cfg(test)]
-mod outside_tests;
 mod rounding;
 mod sure_inputs;
 mod sure_outputs;

@@ -1,6 +1,6 @@
 //! The calls of `MemInputs`.
 
-ghost use Rattle.std.specs.Prelude.{◌≡◌, ◌≤◌, ℕ, length, IfOk};
+ghost use Rattle.std.specs.Prelude.{◌≡◌, ◌≤◌, ℕ, length, IfOk, OnOk};
 ghost use Rattle.sdc_base.specs.Counting.{Rose};
 ghost use Rattle.sdc_base.specs.Files.{Begins, Reads};
 ghost use Rattle.sdc_base.specs.MemoryInputs.{mem_files, MemBegins, MemReads};
@@ -11,7 +11,7 @@ use crate::memory_forms::MemInputs;
 use crate::outside::{Inputs, Refusal};
 
 impl Inputs for MemInputs {
-    ghost told = { mem_files };
+    ghost contents = { mem_files };
 
     ghost faults = { λ it. it.faults };
 
@@ -19,6 +19,7 @@ impl Inputs for MemInputs {
         ensures exact { MemBegins name.now result self.old self.new }
         ensures begins { Begins name.now result (mem_files self.old) (mem_files self.new) }
         ensures faults { self.old.faults ≤ self.new.faults }
+        ensures quiet { OnOk result (self.new.faults ≡ self.old.faults) }
         ensures failed { result ≡ Err Refusal.Failed → Rose self.old.faults self.new.faults }
     {
         self.calls = next_count(self.calls);
@@ -38,6 +39,7 @@ impl Inputs for MemInputs {
         ensures reads { Reads (length buffer.old) buffer.new result
             (mem_files self.old) (mem_files self.new) }
         ensures faults { self.old.faults ≤ self.new.faults }
+        ensures quiet { OnOk result (self.new.faults ≡ self.old.faults) }
         ensures failed { result ≡ Err Refusal.Failed → Rose self.old.faults self.new.faults }
     {
         self.calls = next_count(self.calls);

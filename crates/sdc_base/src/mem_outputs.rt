@@ -1,6 +1,6 @@
 //! The calls of `MemOutputs`.
 
-ghost use Rattle.std.specs.Prelude.{◌≡◌, ◌<◌, ◌≤◌, ℕ, length, IfOk};
+ghost use Rattle.std.specs.Prelude.{◌≡◌, ◌<◌, ◌≤◌, ℕ, length, IfOk, OnOk};
 ghost use Rattle.sdc_base.specs.Counting.{Rose};
 ghost use Rattle.sdc_base.specs.Channels.{Creates, Writes};
 ghost use Rattle.sdc_base.specs.MemoryOutputs.{mem_channels, MemCreates, MemWrites};
@@ -10,7 +10,7 @@ use crate::memory_forms::MemOutputs;
 use crate::outside::{Channel, Outputs, Refusal};
 
 impl Outputs for MemOutputs {
-    ghost told = { mem_channels };
+    ghost contents = { mem_channels };
 
     ghost faults = { λ it. it.faults };
 
@@ -18,6 +18,7 @@ impl Outputs for MemOutputs {
         ensures exact { MemCreates name.now result self.old self.new }
         ensures creates { Creates name.now result (mem_channels self.old) (mem_channels self.new) }
         ensures faults { self.old.faults ≤ self.new.faults }
+        ensures quiet { OnOk result (self.new.faults ≡ self.old.faults) }
         ensures failed { result ≡ Err Refusal.Failed → Rose self.old.faults self.new.faults }
     {
         self.calls = next_count(self.calls);
@@ -37,6 +38,7 @@ impl Outputs for MemOutputs {
         ensures writes { Writes channel piece.now result
             (mem_channels self.old) (mem_channels self.new) }
         ensures faults { self.old.faults ≤ self.new.faults }
+        ensures quiet { OnOk result (self.new.faults ≡ self.old.faults) }
         ensures failed { result ≡ Err Refusal.Failed → Rose self.old.faults self.new.faults }
     {
         self.calls = next_count(self.calls);

@@ -8,7 +8,7 @@ use std::alloc::{AllocError, AllocFailed, Global};
 use thiserror::Error;
 
 /// Memory ran out.
-#[derive(Clone, Copy, Debug, PartialEq, Eq, PartialOrd, Ord, Error)]
+#[derive(Clone, Copy, Debug, PartialEq, Eq, Error)]
 #[error("out of memory")]
 pub struct NoMemory;
 
@@ -25,7 +25,7 @@ impl<T: Drop> From<AllocFailed<T>> for NoMemory {
 }
 
 /// Why a call stopped short: it refused its input, for the cause that it names, or memory ran out.
-#[derive(Debug, Drop, PartialEq, Eq, PartialOrd, Ord)]
+#[derive(Debug, Drop)]
 pub enum Stop<E> {
     Refused(E),
     NoMemory,
@@ -56,7 +56,7 @@ impl<E, T: Drop> From<AllocFailed<T>> for Stop<E> {
 }
 
 /// What was found at a line of a source, lines counted from 1.
-#[derive(Clone, Copy, Debug, Drop, PartialEq, Eq, PartialOrd, Ord)]
+#[derive(Clone, Copy, Debug, Drop)]
 pub struct At<K> {
     pub line: u32,
     pub kind: K,

@@ -8,7 +8,7 @@ use crate::outside::NamedBytes;
 use crate::texts::Text;
 
 /// Files in memory, read by calls of which some are to fail. For tests of what reads files.
-#[derive(Debug, Drop)]
+#[derive(Drop)]
 pub struct MemInputs {
     /// The files; of several with one name the first counts.
     pub files: List<NamedBytes>,
@@ -31,7 +31,7 @@ pub struct MemInputs {
 
 /// Files in memory, read by calls that never fail but for want of memory. A missing name is an
 /// empty file.
-#[derive(Debug, Drop)]
+#[derive(Drop)]
 pub struct SureInputs {
     /// The files; of several with one name the first counts.
     pub files: List<NamedBytes>,
@@ -42,7 +42,7 @@ pub struct SureInputs {
 }
 
 /// Channels in memory, written by calls of which some are to fail. For tests of what writes.
-#[derive(Debug, Drop)]
+#[derive(Drop)]
 pub struct MemOutputs {
     /// What was written to `Report`.
     pub report: List<u8>,
@@ -50,7 +50,7 @@ pub struct MemOutputs {
     pub faults_text: List<u8>,
     /// What was written to `Merged`.
     pub merged: List<u8>,
-    /// The name of the file behind `Merged`.
+    /// The name of the file after `Merged`.
     pub name: Text,
     /// The numbers of the calls that fail, counted from 1 over both methods.
     pub fail: List<u64>,
@@ -65,7 +65,7 @@ pub struct MemOutputs {
 
 /// Channels in memory, written by calls that take whole pieces and never fail but for want of
 /// memory.
-#[derive(Debug, Drop)]
+#[derive(Drop)]
 pub struct SureOutputs {
     /// What was written to `Report`.
     pub report: List<u8>,
@@ -73,6 +73,6 @@ pub struct SureOutputs {
     pub faults_text: List<u8>,
     /// What was written to `Merged`.
     pub merged: List<u8>,
-    /// The name of the file behind `Merged`.
+    /// The name of the file after `Merged`.
     pub name: Text,
 }

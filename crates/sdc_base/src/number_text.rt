@@ -5,7 +5,7 @@ ghost use Rattle.std.specs.Char.{is_ascii_digit};
 ghost use Rattle.std.specs.List.{prefix_len, take_while};
 ghost use Rattle.std.specs.Str.{all_ascii_digits};
 ghost use Rattle.std.specs.Str.Parse.{digits_value, digits_value_after};
-ghost use Rattle.sdc_base.specs.Number.{is_minus, sign_of, after_sign, after_digits, behind_of, after_behind, decimals_in, is_count, exponent_of};
+ghost use Rattle.sdc_base.specs.Number.{is_minus, sign_of, after_sign, after_digits, after_of, after_after, decimals_in, is_count, exponent_of};
 ghost use Rattle.sdc_base.specs.NumberText.{small_value, power_of, power_with};
 
 /// The greatest magnitude of an exponent.
@@ -15,13 +15,13 @@ const MOST_EXPONENT: u32 = 30;
 const MOST_DIGITS: usize = 30;
 
 /// The powers of ten by which an exponent multiplies and divides; one of them is 0.
-#[derive(Debug, Clone, Copy, PartialEq, Eq)]
+#[derive(Clone, Copy)]
 pub(crate) struct Power {
     pub(crate) raised: u32,
     pub(crate) lowered: u32,
 }
 
-/// Whether the text begins with a minus, and what stands behind its sign.
+/// Whether the text begins with a minus, and what stands after its sign.
 pub(crate) fn split_sign(text: &[u8]) -> (bool, &[u8])
     ensures sign { result.0 ≡ is_minus (sign_of text.now) }
     ensures rest { result.1.now ≡ after_sign text.now }
@@ -48,7 +48,7 @@ fn count_digits(text: &[u8]) -> usize
     count
 }
 
-/// The digits at the front of the text, and what stands behind them.
+/// The digits at the front of the text, and what stands after them.
 pub(crate) fn split_digits(text: &[u8]) -> (&[u8], &[u8])
     ensures digits { result.0.now ≡ take_while is_ascii_digit text.now }
     ensures all { IsTrue (all_ascii_digits result.0.now) }
@@ -57,11 +57,11 @@ pub(crate) fn split_digits(text: &[u8]) -> (&[u8], &[u8])
     text.split_at(count_digits(text))
 }
 
-/// The digits behind a point at the front of the text, and what stands behind them.
+/// The digits after a point at the front of the text, and what stands after them.
 pub(crate) fn split_decimals(text: &[u8]) -> (&[u8], &[u8])
-    ensures digits { result.0.now ≡ decimals_in (behind_of text.now) }
+    ensures digits { result.0.now ≡ decimals_in (after_of text.now) }
     ensures all { IsTrue (all_ascii_digits result.0.now) }
-    ensures rest { result.1.now ≡ after_behind text.now }
+    ensures rest { result.1.now ≡ after_after text.now }
 {
     match text {
         [b'.', rest @ ..] => split_digits(rest),
@@ -69,11 +69,11 @@ pub(crate) fn split_decimals(text: &[u8]) -> (&[u8], &[u8])
     }
 }
 
-/// Whether a number may have these digits before and behind its point: at least one and at most 30.
-pub(crate) fn is_count(before: &[u8], behind: &[u8]) -> bool
-    ensures { result ≡ is_count (length before.now + length behind.now) }
+/// Whether a number may have these digits before and after its point: at least one and at most 30.
+pub(crate) fn is_count(before: &[u8], fraction: &[u8]) -> bool
+    ensures { result ≡ is_count (length before.now + length fraction.now) }
 {
-    let count = before.len().saturating_add(behind.len());
+    let count = before.len().saturating_add(fraction.len());
     0 < count && count <= MOST_DIGITS
 }
 
@@ -130,15 +130,15 @@ fn small_value(digits: &[u8]) -> Option<u32>
     }
 }
 
-/// The value of the digits before and behind the point, read as one whole number.
-pub(crate) fn digits_value(before: &[u8], behind: &[u8]) -> u128
-    requires few { length before.now + length behind.now ≤ 30 }
+/// The value of the digits before and after the point, read as one whole number.
+pub(crate) fn digits_value(before: &[u8], fraction: &[u8]) -> u128
+    requires few { length before.now + length fraction.now ≤ 30 }
     requires before { IsTrue (all_ascii_digits before.now) }
-    requires behind { IsTrue (all_ascii_digits behind.now) }
-    ensures value { result ≡ digits_value 10 (before.now ++ behind.now) }
+    requires fraction { IsTrue (all_ascii_digits fraction.now) }
+    ensures value { result ≡ digits_value 10 (before.now ++ fraction.now) }
     ensures below { result < 10 ^ 30 }
 {
-    append_digits(append_digits(0, before), behind)
+    append_digits(append_digits(0, before), fraction)
 }
 
 /// The value of the digits that `value` stands for and those that follow.

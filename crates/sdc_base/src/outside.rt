@@ -1,6 +1,6 @@
 //! The outside as two traits: files that are read, and channels that are written.
 
-ghost use Rattle.std.specs.Prelude.{◌≡◌, ◌<◌, ◌≤◌, ℕ, Option, length, IfOk};
+ghost use Rattle.std.specs.Prelude.{◌≡◌, ◌<◌, ◌≤◌, ℕ, Option, length, IfOk, OnOk};
 ghost use Rattle.sdc_base.specs.Counting.{Rose};
 ghost use Rattle.sdc_base.specs.Files.{Reading, Begins, Reads};
 ghost use Rattle.sdc_base.specs.Channels.{Written, Creates, Writes};
@@ -12,7 +12,7 @@ use crate::texts::Text;
 use thiserror::Error;
 
 /// Why a call of the outside did not do its work.
-#[derive(Clone, Copy, Debug, PartialEq, Eq, PartialOrd, Ord, Error)]
+#[derive(Clone, Copy, Debug, PartialEq, Eq, Error)]
 pub enum Refusal {
     /// The outside failed, and the count of faults tells it.
     #[error("the outside failed")]
@@ -30,7 +30,7 @@ impl From<NoMemory> for Refusal {
 }
 
 /// Where a piece of output goes.
-#[derive(Clone, Copy, Debug, PartialEq, Eq, PartialOrd, Ord)]
+#[derive(Clone, Copy)]
 pub enum Channel {
     /// What the command found.
     Report,
@@ -41,7 +41,7 @@ pub enum Channel {
 }
 
 /// A file in memory.
-#[derive(Debug, Drop, PartialEq, Eq, PartialOrd, Ord)]
+#[derive(Drop)]
 pub struct NamedBytes {
     pub name: Text,
     pub bytes: List<u8>,
@@ -50,15 +50,16 @@ pub struct NamedBytes {
 /// Files that are read one at a time. An object may tell its files, and whether it does never changes.
 pub trait Inputs {
     /// The files and how far they were read, where the object tells it.
-    ghost told: { Self → Option Reading };
+    ghost contents: { Self → Option Reading };
 
     /// The number of faults so far.
     ghost faults: { Self → ℕ };
 
     /// Begins the file of a name, from its start. A refusal leaves the begun file and its offset.
     fn begin(&mut self, name: &str) -> Result<(), Refusal>
-        ensures begins { Begins name.now result (told self.old) (told self.new) }
+        ensures begins { Begins name.now result (contents self.old) (contents self.new) }
         ensures faults { faults self.old ≤ faults self.new }
+        ensures quiet { OnOk result (faults self.new ≡ faults self.old) }
         ensures failed { result ≡ Err Refusal.Failed → Rose (faults self.old) (faults self.new) };
 
     /// Reads the next bytes of the begun file to the front of the buffer, and answers how many; 0 for a
@@ -66,8 +67,9 @@ pub trait Inputs {
     fn read(&mut self, buffer: &mut [u8]) -> Result<usize, Refusal>
         ensures within { IfOk result (λ count. count ≤ length buffer.old) }
         ensures reads { Reads (length buffer.old) buffer.new result
-            (told self.old) (told self.new) }
+            (contents self.old) (contents self.new) }
         ensures faults { faults self.old ≤ faults self.new }
+        ensures quiet { OnOk result (faults self.new ≡ faults self.old) }
         ensures failed { result ≡ Err Refusal.Failed → Rose (faults self.old) (faults self.new) };
 }
 
@@ -75,15 +77,16 @@ pub trait Inputs {
 /// never changes.
 pub trait Outputs {
     /// What stands in the channels, where the object tells it.
-    ghost told: { Self → Option Written };
+    ghost contents: { Self → Option Written };
 
     /// The number of faults so far.
     ghost faults: { Self → ℕ };
 
-    /// Makes the file behind `Merged`, empty and under a name. A refusal changes nothing.
+    /// Makes the file after `Merged`, empty and under a name. A refusal changes nothing.
     fn create(&mut self, name: &str) -> Result<(), Refusal>
-        ensures creates { Creates name.now result (told self.old) (told self.new) }
+        ensures creates { Creates name.now result (contents self.old) (contents self.new) }
         ensures faults { faults self.old ≤ faults self.new }
+        ensures quiet { OnOk result (faults self.new ≡ faults self.old) }
         ensures failed { result ≡ Err Refusal.Failed → Rose (faults self.old) (faults self.new) };
 
     /// Adds the first bytes of a piece to the end of a channel, and answers how many, at least one of a
@@ -91,7 +94,8 @@ pub trait Outputs {
     fn write(&mut self, channel: Channel, piece: &[u8]) -> Result<usize, Refusal>
         ensures within { IfOk result (λ count. count ≤ length piece.now) }
         ensures some { IfOk result (λ count. 0 < length piece.now → 0 < count) }
-        ensures writes { Writes channel piece.now result (told self.old) (told self.new) }
+        ensures writes { Writes channel piece.now result (contents self.old) (contents self.new) }
         ensures faults { faults self.old ≤ faults self.new }
+        ensures quiet { OnOk result (faults self.new ≡ faults self.old) }
         ensures failed { result ≡ Err Refusal.Failed → Rose (faults self.old) (faults self.new) };
 }

@@ -45,7 +45,7 @@ fn shrunk(value: u128, count: u32) -> u128
     nearest(value, 10_u128.pow(count))
 }
 
-/// The magnitude, in units of 10^-9, of a number with these digits, the last `decimals` of them behind the
+/// The magnitude, in units of 10^-9, of a number with these digits, the last `decimals` of them after the
 /// point, and an exponent that does `power`.
 pub(crate) fn scale(digits: u128, decimals: usize, power: Power) -> Result<u128, NumberError>
     requires digits { digits < 10 ^ 30 }

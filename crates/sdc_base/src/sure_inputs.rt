@@ -1,6 +1,6 @@
 //! The calls of `SureInputs`.
 
-ghost use Rattle.std.specs.Prelude.{◌≡◌, ◌≤◌, ℕ, length, IfOk};
+ghost use Rattle.std.specs.Prelude.{◌≡◌, ◌≤◌, ℕ, length, IfOk, OnOk};
 ghost use Rattle.sdc_base.specs.Counting.{Rose, no_faults};
 ghost use Rattle.sdc_base.specs.Files.{Begins, Reads};
 ghost use Rattle.sdc_base.specs.MemoryInputs.{sure_files, SureBegins, SureReads};
@@ -10,7 +10,7 @@ use crate::memory_forms::SureInputs;
 use crate::outside::{Inputs, Refusal};
 
 impl Inputs for SureInputs {
-    ghost told = { sure_files };
+    ghost contents = { sure_files };
 
     ghost faults = { no_faults };
 
@@ -18,6 +18,7 @@ impl Inputs for SureInputs {
         ensures exact { SureBegins name.now result self.old self.new }
         ensures begins { Begins name.now result (sure_files self.old) (sure_files self.new) }
         ensures faults { no_faults self.old ≤ no_faults self.new }
+        ensures quiet { OnOk result (no_faults self.new ≡ no_faults self.old) }
         ensures failed { result ≡ Err Refusal.Failed
             → Rose (no_faults self.old) (no_faults self.new) }
     {
@@ -32,6 +33,7 @@ impl Inputs for SureInputs {
         ensures reads { Reads (length buffer.old) buffer.new result
             (sure_files self.old) (sure_files self.new) }
         ensures faults { no_faults self.old ≤ no_faults self.new }
+        ensures quiet { OnOk result (no_faults self.new ≡ no_faults self.old) }
         ensures failed { result ≡ Err Refusal.Failed
             → Rose (no_faults self.old) (no_faults self.new) }
     {

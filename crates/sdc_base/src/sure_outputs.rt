@@ -1,6 +1,6 @@
 //! The calls of `SureOutputs`.
 
-ghost use Rattle.std.specs.Prelude.{◌≡◌, ◌<◌, ◌≤◌, ℕ, length, IfOk};
+ghost use Rattle.std.specs.Prelude.{◌≡◌, ◌<◌, ◌≤◌, ℕ, length, IfOk, OnOk};
 ghost use Rattle.sdc_base.specs.Counting.{Rose, no_faults};
 ghost use Rattle.sdc_base.specs.Channels.{Creates, Writes};
 ghost use Rattle.sdc_base.specs.MemoryOutputs.{sure_channels, SureCreates, SureWrites};
@@ -9,7 +9,7 @@ use crate::memory_forms::SureOutputs;
 use crate::outside::{Channel, Outputs, Refusal};
 
 impl Outputs for SureOutputs {
-    ghost told = { sure_channels };
+    ghost contents = { sure_channels };
 
     ghost faults = { no_faults };
 
@@ -18,6 +18,7 @@ impl Outputs for SureOutputs {
         ensures creates { Creates name.now result
             (sure_channels self.old) (sure_channels self.new) }
         ensures faults { no_faults self.old ≤ no_faults self.new }
+        ensures quiet { OnOk result (no_faults self.new ≡ no_faults self.old) }
         ensures failed { result ≡ Err Refusal.Failed
             → Rose (no_faults self.old) (no_faults self.new) }
     {
@@ -33,6 +34,7 @@ impl Outputs for SureOutputs {
         ensures writes { Writes channel piece.now result
             (sure_channels self.old) (sure_channels self.new) }
         ensures faults { no_faults self.old ≤ no_faults self.new }
+        ensures quiet { OnOk result (no_faults self.new ≡ no_faults self.old) }
         ensures failed { result ≡ Err Refusal.Failed
             → Rose (no_faults self.old) (no_faults self.new) }
     {

@@ -12,7 +12,7 @@ use std::str;
 /// The most decimals that a whole number of femtoseconds has in any unit.
 const MOST_PLACES: usize = 6;
 
-/// Where the whole part of a number ends, behind room for a sign and 20 digits.
+/// Where the whole part of a number ends, after room for a sign and 20 digits.
 const WHOLE_END: usize = 21;
 
 /// The room for a whole part, a point and the decimals.
@@ -86,7 +86,7 @@ fn write_decimals(bytes: &mut [u8; ROOM], rest: u64, unit: u64) -> usize
     write_places(bytes, rest, unit)
 }
 
-/// Writes the digits of `rest / unit` behind the point, by long division. Returns the end.
+/// Writes the digits of `rest / unit` after the point, by long division. Returns the end.
 #[inline]
 fn write_places(bytes: &mut [u8; ROOM], rest: u64, unit: u64) -> usize
     requires less { rest < unit }

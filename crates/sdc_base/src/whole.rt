@@ -1,6 +1,6 @@
 //! Whole reads and whole writes over the outside.
 
-ghost use Rattle.std.specs.Prelude.{◌≡◌, ◌<◌, ◌≤◌, IfOk, length, vec_len};
+ghost use Rattle.std.specs.Prelude.{◌≡◌, ◌<◌, ◌≤◌, IfOk, OnOk, length, vec_len};
 ghost use Rattle.sdc_base.specs.declared.outside.Refusal.{Refusal};
 ghost use Rattle.sdc_base.specs.declared.whole.ReadStop.TheVariants as stop;
 ghost use Rattle.sdc_base.specs.Counting.{Rose};
@@ -17,7 +17,7 @@ use thiserror::Error;
 pub const MOST_BYTES: usize = 268_435_456;
 
 /// Why a file was not read to its end.
-#[derive(Clone, Copy, Debug, PartialEq, Eq, PartialOrd, Ord, Error)]
+#[derive(Clone, Copy, Debug, Error)]
 pub enum ReadStop {
     /// The outside failed, and the count of faults tells it.
     #[error("the outside failed")]
@@ -57,9 +57,10 @@ impl From<NoMemory> for ReadStop {
 /// Errors: `Failed` where the outside failed, `TooLong` where the file has more than `MOST_BYTES`
 /// bytes, and want of memory.
 pub fn read_all<I: Inputs>(alloc: Global, inputs: &mut I, name: &str) -> Result<List<u8>, ReadStop>
-    ensures whole { ReadsWhole name.now result (I.told inputs.old) (I.told inputs.new) }
+    ensures whole { ReadsWhole name.now result (I.contents inputs.old) (I.contents inputs.new) }
     ensures limit { IfOk result (λ bytes. length bytes ≤ MOST_BYTES) }
     ensures faults { I.faults inputs.old ≤ I.faults inputs.new }
+    ensures quiet { OnOk result (I.faults inputs.new ≡ I.faults inputs.old) }
     ensures failed { result ≡ Err ReadStop.Failed
         → Rose (I.faults inputs.old) (I.faults inputs.new) }
 {
@@ -82,9 +83,10 @@ fn read_rest<I: Inputs>(
     buffer: &mut Vec<u8>,
 ) -> Result<List<u8>, ReadStop>
     requires { 0 < vec_len buffer.old }
-    ensures rest { ReadsRest result (I.told inputs.old) (I.told inputs.new) }
+    ensures rest { ReadsRest result (I.contents inputs.old) (I.contents inputs.new) }
     ensures limit { IfOk result (λ bytes. length bytes ≤ MOST_BYTES) }
     ensures faults { I.faults inputs.old ≤ I.faults inputs.new }
+    ensures quiet { OnOk result (I.faults inputs.new ≡ I.faults inputs.old) }
     ensures failed { result ≡ Err ReadStop.Failed
         → Rose (I.faults inputs.old) (I.faults inputs.new) }
 {
@@ -102,10 +104,11 @@ fn read_rest<I: Inputs>(
 }
 
 /// Adds all bytes of a text to the end of a channel. After a refusal a front of them stands there,
-/// which may be none. Takes no memory itself.
+/// which may be none and is not all. Takes no memory itself.
 pub fn write_all<O: Outputs>(outputs: &mut O, channel: Channel, bytes: &[u8]) -> Result<(), Refusal>
-    ensures writes { WritesAll channel bytes.now result (O.told outputs.old) (O.told outputs.new) }
+    ensures writes { WritesAll channel bytes.now result (O.contents outputs.old) (O.contents outputs.new) }
     ensures faults { O.faults outputs.old ≤ O.faults outputs.new }
+    ensures quiet { OnOk result (O.faults outputs.new ≡ O.faults outputs.old) }
     ensures failed { result ≡ Err Refusal.Failed
         → Rose (O.faults outputs.old) (O.faults outputs.new) }
 {

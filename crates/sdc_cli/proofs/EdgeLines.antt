@@ -4,7 +4,7 @@ use Rattle.timing_types.specs.declared.clocks.Clock.{Clock}
 use Rattle.timing_types.specs.declared.edge_times.Relation.{Relation}
 use Rattle.timing_types.specs.declared.edge_times.TimedEdge.{TimedEdge}
 use Rattle.timing_types.specs.declared.modes.Mode.{Mode}
-use Rattle.sdc_model.specs.Relation.{IsRelation}
+use Rattle.timing_model.specs.Relation.{IsRelation}
 use Rattle.sdc_model.specs.EdgesText.{clock_edges, AreTimed, HaveTimes, Appends, AreLinesFrom, AreLines, AreReports, IsReport, edge_line, edge_text, relation_text}
 use Rattle.sdc_cli.specs.LineParts.{front_text, line_rest}
 
@@ -17,7 +17,7 @@ pub AreTimed-clock_edges : (clocks : List Clock) → HaveTimes clocks → AreTim
 AreTimed-clock_edges [] have = tt
 AreTimed-clock_edges (clock ∷ clocks) have = AreTimed-append _ _ have.0 (AreTimed-clock_edges clocks have.1)
 
--- what completes a text behind which one more piece stands
+-- what completes a text after which one more piece stands
 completes : (All : List ℕ → Type 0) (old text new piece rest : List ℕ) → new ≡ text ++ piece
     → ((lines : List ℕ) × All lines × (old ++ lines ≡ text ++ (piece ++ rest))) → (lines : List ℕ) × All lines × (old ++ lines ≡ new ++ rest)
 completes All old text new piece rest e found =

@@ -10,8 +10,9 @@ use Rattle.std.specs.Result.{IfOk}
 use Rattle.std.specs.declared.cmp.Ordering.TheVariants.{Less}
 use Rattle.sdc_base.proofs.CaseFacts.{cond_or}
 use Rattle.timing_types.specs.declared.clocks.Pair.{Pair}
-use Rattle.sdc_model.specs.ClockFile.{pairs_apart}
-use Rattle.sdc_model.specs.ClockGroups.{Groups, all_set_apart, is_among, is_parted, pairs_from, exclusive_pairs}
+use Rattle.mode_model.specs.ClockFile.{pairs_apart}
+use Rattle.mode_model.specs.ClockGroups.{Groups, all_set_apart, is_parted, pairs_from, exclusive_pairs}
+use Rattle.constraint_model.specs.ListOrder.{is_among}
 use Rattle.sdc_cli.specs.Exclusive.{CommandsBelow, GroupsBelow, HasMore, HasSame, has_pair, pair_cmp, parts, parts_some, parts_any, parts_in}
 use Rattle.clock_map.proofs.RisingPairs.{AllAfter, Rising, Among, same_lists}
 use Rattle.sdc_cli.proofs.GroupSteps.{all_below}

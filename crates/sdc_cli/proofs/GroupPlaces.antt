@@ -9,10 +9,10 @@ use Rattle.timing_types.specs.declared.objects.Object.{Object}
 use Rattle.timing_types.specs.declared.objects.Object.TheVariants as object
 use Rattle.timing_types.specs.declared.objects.Value.{Value}
 use Rattle.timing_types.specs.declared.objects.Value.TheVariants as value
-use Rattle.sdc_model.specs.ClockCommands.{GroupOptions, group_options, groups_given, groups_of, groups_placed, no_groups, with_effect}
-use Rattle.sdc_model.specs.ClockGroups.{clock_place, clock_places, group_of, place_from, places_of}
-use Rattle.sdc_model.specs.ListReading.{items_of}
-use Rattle.sdc_model.specs.Words.{same_text}
+use Rattle.mode_model.specs.ClockCommands.{GroupOptions, group_options, groups_given, groups_of, groups_placed, no_groups, with_effect}
+use Rattle.mode_model.specs.ClockGroups.{clock_place, clock_places, group_of, place_from, places_of}
+use Rattle.tcl_model.specs.ListReading.{items_of}
+use Rattle.text_model.specs.Words.{same_text}
 use Rattle.sdc_cli.specs.Exclusive.{AllBelow, AreBelow, CommandsBelow}
 use Rattle.sdc_cli.proofs.GroupSteps.{below_cons}
 

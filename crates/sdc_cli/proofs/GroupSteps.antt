@@ -6,7 +6,8 @@ use Rattle.std.proofs.lemmas.Bool.{eqb-true, or_cases}
 use Rattle.std.proofs.lemmas.List.Folds.{list_any-append}
 use Rattle.std.specs.BTreeSet.{BTreeSet}
 use Rattle.timing_types.specs.declared.clocks.Pair.{Pair}
-use Rattle.sdc_model.specs.ClockGroups.{Groups, against, all_set_apart, every_two, is_among, others_from, set_apart}
+use Rattle.mode_model.specs.ClockGroups.{Groups, against, all_set_apart, every_two, others_from, set_apart}
+use Rattle.constraint_model.specs.ListOrder.{is_among}
 use Rattle.sdc_cli.specs.Exclusive.{AllBelow, AreBelow, CommandsBelow, GroupsBelow, HasMore, has_pair, parts_any, parts_each, parts_in}
 
 -- ---- pairs so far, and those of what is left
@@ -50,7 +51,7 @@ each_is : (group : List ℕ) (others : List (List ℕ)) (pair : Pair) → parts_
 each_is group [] pair = refl
 each_is group (other ∷ others) pair = ap (λ t. parts_any group other pair || t) (each_is group others pair)
 
--- one group and those behind it
+-- one group and those after it
 pub leads_group : (now next before : BTreeSet Pair) (here others : List (List ℕ)) (group : List ℕ) (all : List Groups) → here ≡ group ∷ others
     → HasMore now next (parts_each group others) → Leads now (every_two here) before all → Leads next (every_two others) before all
 leads_group now next before here others group all e more leads =

@@ -12,24 +12,24 @@ use Rattle.timing_types.specs.declared.clocks.Clock.{Clock}
 use Rattle.source_types.specs.declared.kinds.Kind.{Kind}
 use Rattle.source_types.specs.declared.kinds.Kind.TheVariants.{NotText, Sdc}
 use Rattle.source_types.specs.declared.kinds.SdcKind.{SdcKind}
-use Rattle.sdc_model.specs.BuiltIns.{no_text as empty_text}
+use Rattle.tcl_model.specs.BuiltIns.{no_text as empty_text}
 use Rattle.timing_types.specs.declared.modes.Mode.{Mode}
 use Rattle.timing_types.specs.declared.objects.Value.{Value}
-use Rattle.sdc_model.specs.ClockCommands.{ClockOptions, clock_by, clock_of, clock_options, no_options, value_texts}
-use Rattle.sdc_model.specs.ClockFile.{SoFar, clock_mode, nothing}
-use Rattle.sdc_model.specs.LastLine.{broken_text_line}
-use Rattle.sdc_model.specs.HostCalls.{Answered}
-use Rattle.sdc_model.specs.ModeHost.{Answer, IsAnswered, adds_clock, answer, mode_host}
-use Rattle.sdc_model.specs.ModeMeaning.{Said, SaysMode, SaysText}
+use Rattle.mode_model.specs.ClockCommands.{ClockOptions, clock_by, clock_of, clock_options, no_options, value_texts}
+use Rattle.mode_model.specs.ClockFile.{SoFar, clock_mode, nothing}
+use Rattle.text_model.specs.LastLine.{broken_text_line}
+use Rattle.tcl_model.specs.HostCalls.{Answered}
+use Rattle.mode_model.specs.ModeHost.{Answer, IsAnswered, adds_clock, answer, mode_host}
+use Rattle.mode_model.specs.ModeMeaning.{Said, SaysMode, SaysText}
 use Rattle.sdc_model.specs.ModeFiles.{or_too_many, within_limit}
-use Rattle.sdc_model.specs.RunLimits.{line_beyond}
-use Rattle.sdc_model.specs.ScriptRun.{Runs}
+use Rattle.constraint_model.specs.RunLimits.{line_beyond}
+use Rattle.tcl_model.specs.ScriptRun.{Runs}
 use Rattle.sdc_cli.specs.ModeBytes.{SaysAtMost, made_mode}
 
 -- ---- an answer
 
 -- where the host refuses it is as it was
-left : (told : Answer) (kind : Kind) (before after : SoFar) → IsAnswered told before (Err kind) after → after ≡ before
+left : (contents : Answer) (kind : Kind) (before after : SoFar) → IsAnswered contents before (Err kind) after → after ≡ before
 left (Ok done) kind before after t = let e : Err kind ≡ Ok done.0 = t.0 in absurd (cc)
 left (Err refusal) kind before after t = t.1
 
@@ -116,18 +116,18 @@ says_refused most bytes (stop.Refused fault) says = (Err fault, says, refl)
 says_refused most bytes stop.NoMemory says = tt
 
 -- the number of the clocks before counts as if their clocks stood in front
-beyond_behind : (most count k : ℕ) (clocks : List Clock) → count ≤ most → beyond (most - count) k clocks ≡ beyond most (count + k) clocks
-beyond_behind most count k [] within = refl
-beyond_behind most count k (clock ∷ clocks) within =
+beyond_after : (most count k : ℕ) (clocks : List Clock) → count ≤ most → beyond (most - count) k clocks ≡ beyond most (count + k) clocks
+beyond_after most count k [] within = refl
+beyond_after most count k (clock ∷ clocks) within =
     let here : nat_lt (most - count) (k + 1) ≡ nat_lt most ((count + k) + 1) = grind (arith, nat_tests) in
     let next : count + (k + 1) ≡ (count + k) + 1 = omega arith in
-    rw (here, beyond_behind most count (k + 1) clocks within, next) refl
+    rw (here, beyond_after most count (k + 1) clocks within, next) refl
 
-pub limit_behind : (most count : ℕ) (said : Said) → count ≤ most → within_limit (most - count) 0 said ≡ within_limit most count said
-limit_behind most count (Err fault) within = refl
-limit_behind most count (Ok mode) within =
+pub limit_after : (most count : ℕ) (said : Said) → count ≤ most → within_limit (most - count) 0 said ≡ within_limit most count said
+limit_after most count (Err fault) within = refl
+limit_after most count (Ok mode) within =
     let none : count + 0 ≡ count = omega arith in
-    ap (or_too_many mode) (beyond_behind most count 0 mode.clocks within ∙ ap (λ n. beyond most n mode.clocks) none)
+    ap (or_too_many mode) (beyond_after most count 0 mode.clocks within ∙ ap (λ n. beyond most n mode.clocks) none)
 
 -- a mode within the limit has no more clocks than it
 beyond_step : (test : Bool) (line : ℕ) (others : Option ℕ) → cond test (Some line) others ≡ None → (test ≡ false) × (others ≡ None)

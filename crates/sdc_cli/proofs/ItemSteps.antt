@@ -2,8 +2,8 @@
 use Rattle.std.proofs.Common.{◌≡◌, ℕ, List, Some, None, Ok, Err, sym, ap}
 use Rattle.std.specs.Result.{result_ok}
 use Rattle.source_types.specs.declared.kinds.TclKind.{TclKind}
-use Rattle.sdc_model.specs.ListItems.{Lists}
-use Rattle.sdc_model.specs.ListReading.{items_of}
+use Rattle.tcl_model.specs.ListItems.{Lists}
+use Rattle.tcl_model.specs.ListReading.{items_of}
 use Rattle.tcl_words.proofs.ListRead.{list_of_is}
 
 -- the items that were read

@@ -25,14 +25,16 @@ use Rattle.timing_types.specs.declared.modes.Mode.{Mode}
 use Rattle.timing_types.specs.declared.views.Arrivals.{Arrivals}
 use Rattle.timing_types.specs.declared.views.ClockMap.{ClockMap}
 use Rattle.timing_types.specs.declared.views.View.{View}
-use Rattle.sdc_model.specs.Bytes.{is_name_byte}
-use Rattle.sdc_model.specs.ClockFile.{is_name, is_taken, virtual_clock}
-use Rattle.sdc_model.specs.ClockIdentity.{clock_with, definition_of, numbered_name, names_of, standings_from, standings_of, IsClockMap, IsMerged, IsMergedName}
-use Rattle.sdc_model.specs.Exclusive.{AreExclusivePairs, ComesBefore}
-use Rattle.sdc_model.specs.MergedMode.{IsMergeOf}
-use Rattle.sdc_model.specs.PlainViews.{IsPrimary, ArePrimary, ModesArePrimary, HaveWaves, clock_count, clocks_in, own_waves, views_of}
-use Rattle.sdc_model.specs.PrintedFile.{IsPrintable, IsPrintableClock, IsPrintableWave, ArePairs, ArePrintableClocks, IsBehind, ModesArePrintable}
-use Rattle.sdc_model.specs.Words.{same_text}
+use Rattle.text_model.specs.Bytes.{is_name_byte}
+use Rattle.mode_model.specs.ClockFile.{is_name, is_taken, virtual_clock}
+use Rattle.merge_model.specs.ClockIdentity.{clock_with, definition_of, numbered_name, names_of, standings_from, standings_of, IsClockMap, IsMerged, IsMergedName}
+use Rattle.merge_model.specs.Exclusive.{AreExclusivePairs, ComesBefore}
+use Rattle.merge_model.specs.MergedMode.{IsMergeOf}
+use Rattle.merge_model.specs.PlainViews.{IsPrimary, ArePrimary, ModesArePrimary, HaveWaves, clock_count, clocks_in, own_waves, views_of}
+use Rattle.mode_model.specs.PrintedFile.{IsPrintable, IsPrintableClock, ArePrintableClocks, ModesArePrintable}
+use Rattle.constraint_model.specs.ClockWaves.{IsPrintableWave}
+use Rattle.constraint_model.specs.ExclusivePairs.{ArePairs, IsAfter}
+use Rattle.text_model.specs.Words.{same_text}
 
 -- ---- printable clocks are primary, and have waves
 
@@ -107,14 +109,14 @@ stands_plain standings at standing plain e =
 glyph_is_name_byte : (d : ℕ) → d < 10 → is_name_byte (digit_glyph false d) ≡ true
 glyph_is_name_byte d below = grind (arith, nat_tests)
 
-digits_are_name_bytes : (fuel n : ℕ) (behind : List ℕ) → list_all is_name_byte behind ≡ true → list_all is_name_byte (digits_onto fuel 10 false n behind) ≡ true
-digits_are_name_bytes zero n behind all = all
-digits_are_name_bytes (suc fuel) n behind all =
-    let more : list_all is_name_byte (digit_glyph false (n % 10) ∷ behind) ≡ true =
-    and_from (is_name_byte (digit_glyph false (n % 10))) (list_all is_name_byte behind) (glyph_is_name_byte (n % 10) (omega arith)) all in
-    cond_both (n / 10 == 0) (digit_glyph false (n % 10) ∷ behind) (digits_onto fuel 10 false (n / 10) (digit_glyph false (n % 10) ∷ behind))
+digits_are_name_bytes : (fuel n : ℕ) (after : List ℕ) → list_all is_name_byte after ≡ true → list_all is_name_byte (digits_onto fuel 10 false n after) ≡ true
+digits_are_name_bytes zero n after all = all
+digits_are_name_bytes (suc fuel) n after all =
+    let more : list_all is_name_byte (digit_glyph false (n % 10) ∷ after) ≡ true =
+    and_from (is_name_byte (digit_glyph false (n % 10))) (list_all is_name_byte after) (glyph_is_name_byte (n % 10) (omega arith)) all in
+    cond_both (n / 10 == 0) (digit_glyph false (n % 10) ∷ after) (digits_onto fuel 10 false (n / 10) (digit_glyph false (n % 10) ∷ after))
     (λ (text : List ℕ). list_all is_name_byte text ≡ true) (λ e. more)
-    (λ e. digits_are_name_bytes fuel (n / 10) (digit_glyph false (n % 10) ∷ behind) more)
+    (λ e. digits_are_name_bytes fuel (n / 10) (digit_glyph false (n % 10) ∷ after) more)
 
 decimal_is_of_name_bytes : (n : ℕ) → list_all is_name_byte (decimal n) ≡ true
 unfolding digits
@@ -137,13 +139,13 @@ merged_name own earlier first name is (inl kept) =
 merged_name own earlier first name is (inr new) =
     (subst (λ (n : List ℕ). IsTrue (is_name n)) (sym new.1.is) (numbered_is_name first new.1.k is), new.1.not_earlier)
 
-contains_behind : (xs : List (List ℕ)) (y x : List ℕ) → Contains xs x → Contains (y ∷ xs) x
-contains_behind xs y x c = (suc c.0, omega (arith, c.1), c.2)
+contains_after : (xs : List (List ℕ)) (y x : List ℕ) → Contains xs x → Contains (y ∷ xs) x
+contains_after xs y x c = (suc c.0, omega (arith, c.1), c.2)
 
 not_taken : (name : List ℕ) (clocks : List Clock) → (Contains (map (λ (c : Clock). c.name) clocks) name → ⊥) → is_taken name clocks ≡ false
 not_taken name [] none = refl
 not_taken name (clock ∷ clocks) none =
-    let rest = not_taken name clocks (λ (c : Contains (map (λ (d : Clock). d.name) clocks) name). none (contains_behind (map (λ (d : Clock). d.name) clocks) clock.name name c)) in
+    let rest = not_taken name clocks (λ (c : Contains (map (λ (d : Clock). d.name) clocks) name). none (contains_after (map (λ (d : Clock). d.name) clocks) clock.name name c)) in
     or_from (same_text clock.name name) (is_taken name clocks) (false_from_ne_true (same_text clock.name name) other) rest where
       other : same_text clock.name name ≡ true → ⊥
       other e = none (zero, omega arith, (bytes_decides clock.name name).0 e)
@@ -214,12 +216,12 @@ pairs_in_order count (pair ∷ pairs) each order =
     let first = each zero pair refl in (
       first.0,
       first.1,
-      behind pairs (λ (next : Pair) (e : slice_get pairs zero ≡ Some next). order zero (suc zero) pair next (omega arith) refl e),
+      after pairs (λ (next : Pair) (e : slice_get pairs zero ≡ Some next). order zero (suc zero) pair next (omega arith) refl e),
       pairs_in_order count pairs (λ (p : ℕ). each (suc p)) (λ (p q : ℕ) (x y : Pair) (h : p < q). order (suc p) (suc q) x y (omega arith)),
     ) where
-      behind : (others : List Pair) → ((next : Pair) → slice_get others zero ≡ Some next → ComesBefore pair next) → IsBehind pair others
-      behind [] before = tt
-      behind (next ∷ others) before = before next refl
+      after : (others : List Pair) → ((next : Pair) → slice_get others zero ≡ Some next → ComesBefore pair next) → IsAfter pair others
+      after [] before = tt
+      after (next ∷ others) before = before next refl
 
 contained : (pairs : List Pair) (p : ℕ) (x : Pair) → slice_get pairs p ≡ Some x → Contains pairs x
 contained pairs p x e = (p, slice_get_within pairs p x e, get_or_from_slice_get pairs p x x e)

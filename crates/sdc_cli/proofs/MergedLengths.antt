@@ -5,11 +5,13 @@ use Rattle.timing_types.specs.declared.clocks.Pair.{Pair}
 use Rattle.timing_types.specs.declared.merges.Merged.{Merged}
 use Rattle.timing_types.specs.declared.modes.Mode.{Mode}
 use Rattle.timing_types.specs.declared.views.ClockMap.{ClockMap}
-use Rattle.sdc_model.specs.ClockIdentity.{IsClockMap}
-use Rattle.sdc_model.specs.Exclusive.{AreExclusivePairs}
-use Rattle.sdc_model.specs.MergedMode.{IsMergeOf}
-use Rattle.sdc_model.specs.PlainViews.{views_of}
-use Rattle.sdc_model.specs.PrintedFile.{ArePairs, ArePrintableClocks, IsOfClocks, IsPrintable, ModesArePrintable, printed_file}
+use Rattle.merge_model.specs.ClockIdentity.{IsClockMap}
+use Rattle.merge_model.specs.Exclusive.{AreExclusivePairs}
+use Rattle.merge_model.specs.MergedMode.{IsMergeOf}
+use Rattle.merge_model.specs.PlainViews.{views_of}
+use Rattle.constraint_model.specs.ExclusivePairs.{ArePairs}
+use Rattle.mode_model.specs.PrintedFile.{ArePrintableClocks, IsPrintable, ModesArePrintable, printed_file}
+use Rattle.constraint_model.specs.ModeLines.{IsOfClocks}
 use Rattle.sdc_print.specs.Runs.{groups_text}
 use Rattle.sdc_print.proofs.GroupLengths.{groups_added}
 use Rattle.flat_design.specs.EmptyDesign.{empty_design}

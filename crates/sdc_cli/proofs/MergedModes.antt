@@ -1,12 +1,12 @@
--- What printable modes have, one behind the other, and what their merged mode has.
+-- What printable modes have, one after the other, and what their merged mode has.
 use Rattle.std.proofs.Common.{◌≡◌, ◌++◌, ◌+◌, ℕ, List, [], ◌∷◌, length, arith}
 use Rattle.std.specs.List.{AllZip}
 use Rattle.timing_types.specs.declared.modes.Mode.{Mode}
 use Rattle.timing_types.specs.declared.views.ClockMap.{ClockMap}
-use Rattle.sdc_model.specs.ClockIdentity.{IsClockMap}
+use Rattle.merge_model.specs.ClockIdentity.{IsClockMap}
 use Rattle.sdc_model.specs.EdgesText.{ModesHaveTimes}
-use Rattle.sdc_model.specs.PlainViews.{clocks_in, views_of}
-use Rattle.sdc_model.specs.PrintedFile.{ArePrintableClocks, ModesArePrintable}
+use Rattle.merge_model.specs.PlainViews.{clocks_in, views_of}
+use Rattle.mode_model.specs.PrintedFile.{ArePrintableClocks, ModesArePrintable}
 use Rattle.sdc_cli.specs.MergeRows.{IsNumbered}
 use Rattle.sdc_cli.proofs.SaidClocks.{printable_has_times}
 

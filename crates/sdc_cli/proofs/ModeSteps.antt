@@ -4,28 +4,28 @@ use Rattle.sdc_base.specs.declared.memory.At.{At}
 use Rattle.sdc_base.specs.declared.whole.TheConstants.{MOST_BYTES}
 use Rattle.sdc_base.specs.Files.{Reading, bytes_of, ReadsWhole}
 use Rattle.sdc_base.specs.declared.outside.NamedBytes.{NamedBytes}
-use Rattle.source_types.specs.declared.answers.Status.{Status}
-use Rattle.source_types.specs.declared.answers.Status.TheVariants as status
-use Rattle.source_types.specs.declared.command_lines.CommandLine.{CommandLine}
+use Rattle.sdc_model.specs.declared.answers.Status.{Status}
+use Rattle.sdc_model.specs.declared.answers.Status.TheVariants as status
+use Rattle.sdc_model.specs.declared.command_lines.CommandLine.{CommandLine}
 use Rattle.source_types.specs.declared.kinds.Fault.{Fault}
 use Rattle.source_types.specs.declared.kinds.Kind.{Kind}
 use Rattle.timing_types.specs.declared.modes.Mode.{Mode}
 use Rattle.sdc_model.specs.ModeFiles.{SayModes, SaysFile, fault_of, with_first}
-use Rattle.sdc_model.specs.ModeMeaning.{Said}
-use Rattle.sdc_cli.proofs.HostSteps.{limit_behind}
-use Rattle.sdc_model.specs.Answers.{OnTold, FailsReading, files_of, first_place, most_clocks}
+use Rattle.mode_model.specs.ModeMeaning.{Said}
+use Rattle.sdc_cli.proofs.HostSteps.{limit_after}
+use Rattle.sdc_model.specs.Answers.{OnContents, FailsReading, files_of, first_place, most_clocks}
 use Rattle.sdc_cli.specs.ModeBytes.{SaysAtMost}
 use Rattle.sdc_cli.specs.Steps.{ReadsMode, ReadsModes}
 
 -- what the bytes of a file say, in the words of all files
 file_says : (most count : ℕ) (bytes : List ℕ) (outcome : Said) → count ≤ most → length bytes ≤ MOST_BYTES → SaysAtMost (most - count) bytes outcome
     → SaysFile most count bytes outcome
-file_says most count bytes outcome within short says = inr (short, (says.0, says.1, says.2 ∙ limit_behind most count says.0 within))
+file_says most count bytes outcome within short says = inr (short, (says.0, says.1, says.2 ∙ limit_after most count says.0 within))
 
 -- and where the file was read whole
 pub told_mode : (most count place : ℕ) (name bytes : List ℕ) (mode : Mode) (before after : Option Reading)
     → count ≤ most → ReadsWhole name (Ok bytes) before after → SaysAtMost (most - count) bytes (Ok mode)
-    → OnTold (ReadsMode most count place name (Ok mode)) before after
+    → OnContents (ReadsMode most count place name (Ok mode)) before after
 told_mode most count place name bytes mode None None within whole says = tt
 told_mode most count place name bytes mode None (Some after) within whole says = whole
 told_mode most count place name bytes mode (Some before) None within whole says = whole
@@ -34,7 +34,7 @@ told_mode most count place name bytes mode (Some before) (Some after) within who
 
 pub told_fault : (most count place : ℕ) (name bytes : List ℕ) (fault : At Kind) (before after : Option Reading)
     → count ≤ most → ReadsWhole name (Ok bytes) before after → SaysAtMost (most - count) bytes (Err fault)
-    → OnTold (ReadsMode most count place name (Err (status.Source (record { file = place; line = fault.line; kind = fault.kind })))) before after
+    → OnContents (ReadsMode most count place name (Err (status.Source (record { file = place; line = fault.line; kind = fault.kind })))) before after
 told_fault most count place name bytes fault None None within whole says = tt
 told_fault most count place name bytes fault None (Some after) within whole says = whole
 told_fault most count place name bytes fault (Some before) None within whole says = whole
@@ -50,7 +50,7 @@ in_front-push : (modes : List Mode) (mode : Mode) (outcome : Result (List Mode) 
 in_front-push modes mode (Ok others) = ap (λ (all : List Mode). Ok all) (sym (append_assoc modes (mode ∷ []) others))
 in_front-push modes mode (Err fault) = refl
 
--- Behind `at` files of these names, which said these modes with so many clocks, the next one at a place of the words:
+-- After `at` files of these names, which said these modes with so many clocks, the next one at a place of the words:
 -- whatever the other files say completes what all say, and where the read of another one fails, the read of all fails
 -- there.
 pub record ReadSoFar (most first : ℕ) (names : List (List ℕ)) (at place count : ℕ) (modes : List Mode) (before now : Reading) : Type 0 where
@@ -84,8 +84,8 @@ more_read most first names name at place next count modes mode before now after 
 
 pub ReadSoFar-more : (most first : ℕ) (names : List (List ℕ)) (name : List ℕ) (at place next count : ℕ) (modes : List Mode) (mode : Mode) (before now after : Option Reading)
     → drop at names ≡ name ∷ drop (at + 1) names → next ≡ suc place
-    → OnTold (ReadSoFar most first names at place count modes) before now → OnTold (ReadsMode most count place name (Ok mode)) now after
-    → OnTold (ReadSoFar most first names (at + 1) next (count + length mode.clocks) (modes ++ mode ∷ [])) before after
+    → OnContents (ReadSoFar most first names at place count modes) before now → OnContents (ReadsMode most count place name (Ok mode)) now after
+    → OnContents (ReadSoFar most first names (at + 1) next (count + length mode.clocks) (modes ++ mode ∷ [])) before after
 ReadSoFar-more most first names name at place next count modes mode None None None here e so_far reads = tt
 ReadSoFar-more most first names name at place next count modes mode None None (Some after) here e so_far reads = reads
 ReadSoFar-more most first names name at place next count modes mode None (Some now) after here e so_far reads = absurd so_far
@@ -109,16 +109,20 @@ stops line name at place count modes (status.Source fault) before now after here
 stops line name at place count modes (status.ReadFault failed) before now after here so_far reads =
     (reads.0 ∙ so_far.files, so_far.fails failed after.begun (subst (λ (left : List (List ℕ)). FailsReading (most_clocks line) before.files place count now.begun left failed after.begun) (sym here) (inl (reads.1, reads.2))))
 stops line name at place count modes status.Done before now after here so_far reads = reads ∙ so_far.files
+stops line name at place count modes status.Findings before now after here so_far reads = reads ∙ so_far.files
 stops line name at place count modes status.Usage before now after here so_far reads = reads ∙ so_far.files
 stops line name at place count modes status.WriteFault before now after here so_far reads = reads ∙ so_far.files
 stops line name at place count modes status.NoMemory before now after here so_far reads = reads ∙ so_far.files
+stops line name at place count modes (status.Loop cycle) before now after here so_far reads = reads ∙ so_far.files
+stops line name at place count modes (status.Conflict pin source passing) before now after here so_far reads = reads ∙ so_far.files
+stops line name at place count modes (status.Budget classes) before now after here so_far reads = reads ∙ so_far.files
 stops line name at place count modes (status.TooLarge bytes) before now after here so_far reads = reads ∙ so_far.files
 
 pub ReadSoFar-stops : (line : CommandLine) (name : List ℕ) (at place count : ℕ) (modes : List Mode) (answer : Status) (before now after : Option Reading)
     → drop at (files_of line) ≡ name ∷ drop (at + 1) (files_of line)
-    → OnTold (ReadSoFar (most_clocks line) (first_place line) (files_of line) at place count modes) before now
-    → OnTold (ReadsMode (most_clocks line) count place name (Err answer)) now after
-    → OnTold (ReadsModes line (Err answer)) before after
+    → OnContents (ReadSoFar (most_clocks line) (first_place line) (files_of line) at place count modes) before now
+    → OnContents (ReadsMode (most_clocks line) count place name (Err answer)) now after
+    → OnContents (ReadsModes line (Err answer)) before after
 ReadSoFar-stops line name at place count modes answer None None None here so_far reads = tt
 ReadSoFar-stops line name at place count modes answer None None (Some after) here so_far reads = reads
 ReadSoFar-stops line name at place count modes answer None (Some now) after here so_far reads = absurd so_far
@@ -130,8 +134,8 @@ ReadSoFar-stops line name at place count modes answer (Some before) (Some now) (
 -- where no file is left, all files say the modes
 pub ReadSoFar-all : (line : CommandLine) (at place count : ℕ) (modes : List Mode) (before now : Option Reading)
     → drop at (files_of line) ≡ []
-    → OnTold (ReadSoFar (most_clocks line) (first_place line) (files_of line) at place count modes) before now
-    → OnTold (ReadsModes line (Ok modes)) before now
+    → OnContents (ReadSoFar (most_clocks line) (first_place line) (files_of line) at place count modes) before now
+    → OnContents (ReadsModes line (Ok modes)) before now
 ReadSoFar-all line at place count modes None None none so_far = tt
 ReadSoFar-all line at place count modes None (Some now) none so_far = so_far
 ReadSoFar-all line at place count modes (Some before) None none so_far = so_far

@@ -4,17 +4,17 @@ use Rattle.std.specs.Prelude.{◌+◌, suc, IfOk}
 use Rattle.sdc_base.specs.declared.outside.NamedBytes.{NamedBytes}
 use Rattle.sdc_base.specs.declared.whole.TheConstants.{MOST_BYTES}
 use Rattle.sdc_base.specs.Files.{Reading, bytes_of}
-use Rattle.source_types.specs.declared.command_lines.CommandLine.{CommandLine}
-use Rattle.source_types.specs.declared.command_lines.CommandLine.TheVariants.{Edges, Merge}
-use Rattle.source_types.specs.declared.command_lines.Output.{Output}
+use Rattle.sdc_model.specs.declared.command_lines.CommandLine.{CommandLine}
+use Rattle.sdc_model.specs.declared.command_lines.CommandLine.TheVariants.{Edges, Merge}
+use Rattle.sdc_model.specs.declared.command_lines.Output.{Output}
 use Rattle.source_types.specs.declared.kinds.Fault.{Fault}
 use Rattle.timing_types.specs.declared.merges.Merged.{Merged}
 use Rattle.timing_types.specs.declared.modes.Mode.{Mode}
 use Rattle.sdc_model.specs.Answers.{LineModes, files_of, first_place, most_clocks}
 use Rattle.sdc_model.specs.EdgesText.{AreReports}
 use Rattle.sdc_model.specs.ModeFiles.{Continues, SayModes, SaysFile, with_first}
-use Rattle.sdc_model.specs.ModeMeaning.{Said}
-use Rattle.sdc_model.specs.PrintedFile.{ModesArePrintable}
+use Rattle.mode_model.specs.ModeMeaning.{Said}
+use Rattle.mode_model.specs.PrintedFile.{ModesArePrintable}
 use Rattle.sdc_cli.specs.declared.reports.Report.TheVariants as report
 use Rattle.sdc_cli.specs.Laws.{HasOneAnswer, SayPrintableModes}
 use Rattle.sdc_cli.specs.MergeOutput.{IsMergeOutput, merged_text}

@@ -4,9 +4,10 @@ use Rattle.timing_types.specs.declared.clocks.Clock.{Clock}
 use Rattle.timing_types.specs.declared.clocks.Pair.{Pair}
 use Rattle.timing_types.specs.declared.modes.Mode.{Mode}
 use Rattle.timing_types.specs.declared.views.ClockMap.{ClockMap}
-use Rattle.sdc_model.specs.Exclusive.{AreExclusivePairs}
-use Rattle.sdc_model.specs.PlainViews.{views_of}
-use Rattle.sdc_model.specs.PrintedFile.{IsOfClocks, ModesArePrintable}
+use Rattle.merge_model.specs.Exclusive.{AreExclusivePairs}
+use Rattle.merge_model.specs.PlainViews.{views_of}
+use Rattle.constraint_model.specs.ModeLines.{IsOfClocks}
+use Rattle.mode_model.specs.PrintedFile.{ModesArePrintable}
 use Rattle.clock_map.proofs.OneMap.{map_once}
 use Rattle.clock_map.proofs.RisingPairs.{pairs_once}
 use Rattle.sdc_cli.proofs.MergedClocks.{views_are_primary}

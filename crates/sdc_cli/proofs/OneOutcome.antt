@@ -3,22 +3,22 @@ use Rattle.std.proofs.Common.{◌≡◌, ◌∙◌, ◌≤◌, ◌<◌, ◌+◌,
 use Rattle.sdc_base.specs.declared.outside.NamedBytes.{NamedBytes}
 use Rattle.sdc_base.specs.declared.whole.TheConstants.{MOST_BYTES}
 use Rattle.sdc_base.specs.Files.{bytes_of}
-use Rattle.source_types.specs.declared.command_lines.CommandLine.{CommandLine}
+use Rattle.sdc_model.specs.declared.command_lines.CommandLine.{CommandLine}
 use Rattle.source_types.specs.declared.kinds.Fault.{Fault}
 use Rattle.timing_types.specs.declared.modes.Mode.{Mode}
 use Rattle.sdc_model.specs.Answers.{files_of, first_place, most_clocks}
 use Rattle.sdc_model.specs.ModeFiles.{Continues, SayModes, SaysFile, with_first, within_limit}
-use Rattle.sdc_model.specs.ModeMeaning.{Said, SaysMode, SaysText, said_of}
+use Rattle.mode_model.specs.ModeMeaning.{Said, SaysMode, SaysText, said_of}
 use Rattle.sdc_cli.specs.Laws.{HasOneOutcome}
-use Rattle.sdc_model.specs.ClockFile.{nothing}
-use Rattle.sdc_model.specs.ModeHost.{Answer, IsAnswered, answer, mode_host}
+use Rattle.mode_model.specs.ClockFile.{nothing}
+use Rattle.mode_model.specs.ModeHost.{Answer, IsAnswered, answer, mode_host}
 use Rattle.tcl_eval.proofs.OneRun.{run_once}
 use Rattle.tcl_eval.specs.Laws.{HostIsOne, IsOne}
 
 -- ---- the host
 
-answered_one : (told : Answer) → IsOne (IsAnswered told)
-answered_one (Ok told) before a b x y t u = (t.0 ∙ sym u.0, t.1 ∙ sym u.1)
+answered_one : (contents : Answer) → IsOne (IsAnswered contents)
+answered_one (Ok contents) before a b x y t u = (t.0 ∙ sym u.0, t.1 ∙ sym u.1)
 answered_one (Err kind) before a b x y t u = (t.0 ∙ sym u.0, t.1 ∙ sym u.1)
 
 host_one : HostIsOne mode_host
@@ -32,7 +32,7 @@ host_one line name words before (Err a) (Err b) x y t u = answered_one (answer b
 text_once : (text : List ℕ) (r s : Said) → SaysText text r → SaysText text s → r ≡ s
 text_once text r s p q =
     let same = run_once mode_host host_one text nothing p.0 q.0 p.1 q.1 p.2 q.2 in
-    p.3 ∙ ap (λ told. said_of told p.1) same.0 ∙ ap (λ so_far. said_of q.0 so_far) same.1 ∙ sym q.3
+    p.3 ∙ ap (λ contents. said_of contents p.1) same.0 ∙ ap (λ so_far. said_of q.0 so_far) same.1 ∙ sym q.3
 
 says_once : (bytes : List ℕ) (r s : Said) → SaysMode bytes r → SaysMode bytes s → r ≡ s
 says_once bytes r s (inl p) (inl q) = text_once bytes r s p.1 q.1

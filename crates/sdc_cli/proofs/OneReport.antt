@@ -4,7 +4,7 @@ use Rattle.timing_types.specs.declared.edge_times.Relation.{Relation}
 use Rattle.timing_types.specs.declared.edge_times.TimedEdge.{TimedEdge}
 use Rattle.timing_types.specs.declared.modes.Mode.{Mode}
 use Rattle.sdc_model.specs.EdgesText.{AreLines, AreLinesFrom, clock_edges, edge_line}
-use Rattle.sdc_model.proofs.RelationFacts.{same_relation}
+use Rattle.timing_model.proofs.RelationFacts.{same_relation}
 use Rattle.sdc_cli.specs.Laws.{HaveOneReport}
 
 -- two texts of one front piece and one rest are one

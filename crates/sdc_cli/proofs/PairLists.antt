@@ -2,7 +2,7 @@
 use Rattle.std.proofs.Common.{◌≡◌, ◌<◌, ◌≤◌, ◌==◌, ◌+◌, ◌⊎◌, inl, inr, ℕ, zero, suc, Bool, true, false, cond, List, [], ◌∷◌, ◌++◌, refl, sym, ◌∙◌, ap, arith}
 use Rattle.std.proofs.lemmas.Bool.Decides.{Decides-eqb, nat_tests}
 use Rattle.timing_types.specs.declared.clocks.Pair.{Pair}
-use Rattle.sdc_model.specs.ClockGroups.{Groups, is_parted, pairs_with, pairs_from}
+use Rattle.mode_model.specs.ClockGroups.{Groups, is_parted, pairs_with, pairs_from}
 use Rattle.clock_map.proofs.RisingPairs.{Before, AllAfter, Rising, Among}
 
 -- lists of pairs

@@ -9,9 +9,9 @@ use Rattle.std.specs.Ordering.{nat_cmp}
 use Rattle.std.specs.Str.{bytes_eq}
 use Rattle.std.specs.String.{string_bytes, string_cmp}
 use Rattle.timing_types.specs.declared.clocks.Clock.{Clock}
-use Rattle.sdc_model.specs.ClockFile.{is_taken}
-use Rattle.sdc_model.specs.ClockGroups.{place_from}
-use Rattle.sdc_model.specs.Words.{same_text}
+use Rattle.mode_model.specs.ClockFile.{is_taken}
+use Rattle.mode_model.specs.ClockGroups.{place_from}
+use Rattle.text_model.specs.Words.{same_text}
 use Rattle.sdc_cli.specs.Places.{HasPlaces}
 
 -- a name is taken where it has a place

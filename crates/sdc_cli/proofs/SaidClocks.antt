@@ -18,25 +18,27 @@ use Rattle.source_types.specs.declared.kinds.SdcKind.TheVariants.{OutOfProfile, 
 use Rattle.timing_types.specs.declared.modes.Mode.{Mode}
 use Rattle.timing_types.specs.declared.objects.Object.{Object}
 use Rattle.timing_types.specs.declared.objects.Value.{Value}
-use Rattle.sdc_model.specs.ClockCommands.{ClockOptions, clock_by, clock_given, clock_of, clock_options, clock_waved, clocks_named, groups_of, is_unit, most_file_clocks, no_options, value_texts}
-use Rattle.sdc_model.specs.ClockFile.{SoFar, clock_mode, is_name, is_taken, nothing, virtual_clock, wave_given}
+use Rattle.mode_model.specs.ClockCommands.{ClockOptions, clock_by, clock_given, clock_of, clock_options, clock_waved, clocks_named, groups_of, is_unit, most_file_clocks, no_options, value_texts}
+use Rattle.mode_model.specs.ClockFile.{SoFar, clock_mode, is_name, is_taken, nothing, virtual_clock, wave_given}
 use Rattle.sdc_model.specs.ModeFiles.{or_too_many, within_limit}
-use Rattle.sdc_model.specs.ModeHost.{Answer, IsAnswered, adds_clock, adds_groups, answer, gives_clocks, keeps_where, mode_host}
-use Rattle.sdc_model.specs.ModeMeaning.{Said, SaysMode, said_of}
-use Rattle.sdc_model.specs.RunLimits.{line_beyond}
+use Rattle.mode_model.specs.ModeHost.{Answer, IsAnswered, adds_clock, adds_groups, answer, gives_clocks, keeps_where, mode_host}
+use Rattle.mode_model.specs.ModeMeaning.{Said, SaysMode, said_of}
+use Rattle.constraint_model.specs.RunLimits.{line_beyond}
 use Rattle.sdc_model.specs.EdgesText.{AreTimed, edges_of, HaveTimes}
-use Rattle.sdc_model.specs.ListReading.{items_of}
-use Rattle.sdc_model.specs.PrintedFile.{ArePrintableClocks, IsPrintableClock, IsPrintableWave}
-use Rattle.sdc_model.specs.Relation.{IsEdgeOf}
-use Rattle.sdc_model.specs.Words.{same_text}
+use Rattle.tcl_model.specs.ListReading.{items_of}
+use Rattle.mode_model.specs.PrintedFile.{ArePrintableClocks, IsPrintableClock}
+use Rattle.constraint_model.specs.ClockWaves.{IsPrintableWave}
+use Rattle.timing_model.specs.Relation.{IsEdgeOf}
+use Rattle.text_model.specs.Words.{same_text}
 use Rattle.sdc_cli.specs.ModeBytes.{SaysAtMost}
 use Rattle.tcl_eval.proofs.KeptRuns.{HostKeeps, runs_keep}
 use Rattle.sdc_print.proofs.PrintableFacts.{one_more}
-use Rattle.sdc_model.specs.Waveform.{limited_time, time_from, nanoseconds, period_of, plain_wave, moved_down, wave_within, wave_of, waveform_of}
+use Rattle.mode_model.specs.Waveform.{limited_time, time_from, nanoseconds, period_of, wave_of, waveform_of}
+use Rattle.constraint_model.specs.ClockWaves.{plain_wave, moved_down, wave_within}
 
 -- ---- answers by steps
 
--- a step behind another one, where each answer of the first has a fact
+-- a step after another one, where each answer of the first has a fact
 then_holds : {A B : Type 0} (Q : A → Type 0) (P : B → Type 0) (f : A → Option B) (o : Option A) → IfSome o Q → ((a : A) → Q a → IfSome (f a) P) → IfSome (option_and_then f o) P
 then_holds Q P f None q p = tt
 then_holds Q P f (Some a) q p = p a q
@@ -78,7 +80,7 @@ rise_tests : (period rise fall : ℕ) → (nat_lt rise fall && nat_lt fall (rise
 rise_tests period rise fall h = grind (arith, nat_tests)
 
 moved_is_printable : (period rise fall : ℕ) → IsWithin 2 period → fall ≤ 10 ^ 12 → rise < fall → fall < rise + period → IsPrintableWave (moved_down period rise fall)
-moved_is_printable period rise fall p most behind before_next =
+moved_is_printable period rise fall p most rest before_next =
     let less : rise % period ≤ rise = mod-le rise period in
     record {
       period = (omega (arith, ints), omega (arith, ints));
@@ -134,9 +136,9 @@ clock_by-new clocks line (Some given) = clock_given-new clocks line given.name g
 
 -- ---- answers of the host
 
--- what stands behind an answer can be printed
+-- what stands after an answer can be printed
 abbrev GivesPrintable : Answer → Type 0
-GivesPrintable told = IfOk told (λ done. IsPrintableSoFar done.1)
+GivesPrintable contents = IfOk contents (λ done. IsPrintableSoFar done.1)
 
 adds_clock-keeps : (so_far : SoFar) (made : Result Clock SdcKind) → IsPrintableSoFar so_far → IfOk made (IsNew so_far.clocks) → GivesPrintable (adds_clock so_far made)
 adds_clock-keeps so_far (Ok clock) k new = one_more [] so_far.clocks clock k new.0 new.1
@@ -166,8 +168,8 @@ answer-keeps so_far line name words k =
     (either_gives (same_text name (codes "set_units")) _ _ (keeps_where-keeps so_far (is_unit (value_texts so_far.clocks words)) k)
     (either_gives (same_text name (codes "get_clocks")) _ _ (gives_clocks-keeps so_far (clocks_named so_far.clocks words) k) tt)))
 
-answered-keeps : (told : Answer) (before : SoFar) (given : Result Value Kind) (after : SoFar) → IsAnswered told before given after → GivesPrintable told → IsPrintableSoFar before → IsPrintableSoFar after
-answered-keeps (Ok told) before given after t p k = subst IsPrintableSoFar (sym t.1) p
+answered-keeps : (contents : Answer) (before : SoFar) (given : Result Value Kind) (after : SoFar) → IsAnswered contents before given after → GivesPrintable contents → IsPrintableSoFar before → IsPrintableSoFar after
+answered-keeps (Ok contents) before given after t p k = subst IsPrintableSoFar (sym t.1) p
 answered-keeps (Err kind) before given after t p k = subst IsPrintableSoFar (sym t.1) k
 
 host-keeps : HostKeeps IsPrintableSoFar mode_host
@@ -176,7 +178,7 @@ host-keeps line name words before (Err fault) after t k = subst IsPrintableSoFar
 
 -- ---- what a file says
 
-said_of-is : (told : Result Unit (At Kind)) (so_far : SoFar) (mode : Mode) → IsPrintableSoFar so_far → Ok mode ≡ said_of told so_far → ArePrintableClocks [] mode.clocks
+said_of-is : (contents : Result Unit (At Kind)) (so_far : SoFar) (mode : Mode) → IsPrintableSoFar so_far → Ok mode ≡ said_of contents so_far → ArePrintableClocks [] mode.clocks
 said_of-is (Ok done) so_far mode k e =
     let same : mode ≡ clock_mode so_far = cc in
     subst (λ (m : Mode). ArePrintableClocks [] m.clocks) (sym same) k

@@ -6,7 +6,8 @@ use Rattle.std.specs.List.{list_any}
 use Rattle.std.specs.Ordering.{nat_cmp, ordering_then}
 use Rattle.std.specs.declared.cmp.Ordering.{Ordering}
 use Rattle.timing_types.specs.declared.clocks.Pair.{Pair}
-use Rattle.sdc_model.specs.ClockGroups.{Groups, is_among}
+use Rattle.mode_model.specs.ClockGroups.{Groups}
+use Rattle.constraint_model.specs.ListOrder.{is_among}
 
 -- each of these places is below a number
 abbrev pub AreBelow : ℕ → List ℕ → Type 0

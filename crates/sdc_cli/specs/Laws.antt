@@ -4,15 +4,15 @@
 use Rattle.std.specs.Prelude.{◌≡◌, ℕ, List, Some, Result, Ok}
 use Rattle.sdc_base.specs.declared.outside.NamedBytes.{NamedBytes}
 use Rattle.sdc_base.specs.Files.{Reading}
-use Rattle.source_types.specs.declared.command_lines.CommandLine.{CommandLine}
-use Rattle.source_types.specs.declared.command_lines.Output.{Output}
+use Rattle.sdc_model.specs.declared.command_lines.CommandLine.{CommandLine}
+use Rattle.sdc_model.specs.declared.command_lines.Output.{Output}
 use Rattle.source_types.specs.declared.kinds.Fault.{Fault}
 use Rattle.timing_types.specs.declared.merges.Merged.{Merged}
 use Rattle.timing_types.specs.declared.modes.Mode.{Mode}
 use Rattle.sdc_model.specs.Answers.{LineModes, OnModes}
 use Rattle.sdc_model.specs.EdgesText.{AreReports}
-use Rattle.sdc_model.specs.MergedMode.{IsMergeOf}
-use Rattle.sdc_model.specs.PrintedFile.{ModesArePrintable}
+use Rattle.merge_model.specs.MergedMode.{IsMergeOf}
+use Rattle.mode_model.specs.PrintedFile.{ModesArePrintable}
 use Rattle.sdc_cli.specs.Outputs.{IsOutputOf, IsTooLargeOf}
 
 -- two outcomes of the files of a command line are one

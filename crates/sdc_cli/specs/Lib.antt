@@ -10,5 +10,6 @@ pub mod Outputs
 pub mod Places
 pub mod Refusals
 pub mod ReportTree
-pub mod Waves
 pub mod Steps
+pub mod Streams
+pub mod Waves

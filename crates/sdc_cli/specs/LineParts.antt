@@ -1,5 +1,5 @@
 -- A line of the report of `edges` in the two parts that are written: what all lines of a launch edge begin with, and
--- the rest of a line. This project's own; `edge_line` is the one behind the other.
+-- the rest of a line. This project's own; `edge_line` is the one after the other.
 use Rattle.std.specs.Prelude.{ℕ, List, ◌++◌, codes}
 use Rattle.timing_types.specs.declared.edge_times.Relation.{Relation}
 use Rattle.timing_types.specs.declared.edge_times.TimedEdge.{TimedEdge}

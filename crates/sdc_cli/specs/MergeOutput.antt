@@ -4,12 +4,12 @@
 use Rattle.std.specs.Prelude.{◌≡◌, ◌<◌, ◌≤◌, ℕ, List, length, Ok}
 use Rattle.flat_design.specs.EmptyDesign.{empty_design}
 use Rattle.sdc_base.specs.declared.whole.TheConstants.{MOST_BYTES}
-use Rattle.source_types.specs.declared.command_lines.Output.{Output}
+use Rattle.sdc_model.specs.declared.command_lines.Output.{Output}
 use Rattle.timing_types.specs.declared.merges.Merged.{Merged}
 use Rattle.timing_types.specs.declared.modes.Mode.{Mode}
-use Rattle.sdc_model.specs.ModeMeaning.{SaysMode}
-use Rattle.sdc_model.specs.MergedMode.{IsMergeOf}
-use Rattle.sdc_model.specs.PrintedFile.{printed_file, without_lines}
+use Rattle.mode_model.specs.ModeMeaning.{SaysMode}
+use Rattle.merge_model.specs.MergedMode.{IsMergeOf}
+use Rattle.mode_model.specs.PrintedFile.{printed_file, without_lines}
 use Rattle.sdc_cli.specs.declared.reports.Report.TheVariants.{Merge}
 use Rattle.sdc_cli.specs.MergeRows.{report_of}
 use Rattle.sdc_cli.specs.ReportTree.{report_bytes}

@@ -2,9 +2,9 @@
 -- many clocks. This project's own words.
 use Rattle.std.specs.Prelude.{◌≡◌, ℕ, List, Result, Ok, Err}
 use Rattle.timing_types.specs.declared.modes.Mode.{Mode}
-use Rattle.sdc_model.specs.ClockFile.{SoFar, clock_mode}
+use Rattle.mode_model.specs.ClockFile.{SoFar, clock_mode}
 use Rattle.sdc_model.specs.ModeFiles.{within_limit}
-use Rattle.sdc_model.specs.ModeMeaning.{Said, SaysMode}
+use Rattle.mode_model.specs.ModeMeaning.{Said, SaysMode}
 
 -- the mode of what was made, or the same refusal
 abbrev pub made_mode : {E : Type 0} → Result SoFar E → Result Mode E

@@ -3,11 +3,11 @@
 -- is too long.
 use Rattle.std.specs.Prelude.{◌≡◌, ℕ, List, [], Some, Result, Ok, Err}
 use Rattle.sdc_base.specs.Files.{Reading}
-use Rattle.source_types.specs.declared.answers.Status.{Status}
-use Rattle.source_types.specs.declared.answers.Status.TheVariants as status
-use Rattle.source_types.specs.declared.command_lines.CommandLine.{CommandLine}
-use Rattle.source_types.specs.declared.command_lines.CommandLine.TheVariants.{Edges, Merge}
-use Rattle.source_types.specs.declared.command_lines.Output.{Output}
+use Rattle.sdc_model.specs.declared.answers.Status.{Status}
+use Rattle.sdc_model.specs.declared.answers.Status.TheVariants as status
+use Rattle.sdc_model.specs.declared.command_lines.CommandLine.{CommandLine}
+use Rattle.sdc_model.specs.declared.command_lines.CommandLine.TheVariants.{Edges, Merge}
+use Rattle.sdc_model.specs.declared.command_lines.Output.{Output}
 use Rattle.timing_types.specs.declared.modes.Mode.{Mode}
 use Rattle.sdc_model.specs.Answers.{LineModes, TooLargeFits}
 use Rattle.sdc_cli.specs.Steps.{ReadsModes, StopsReading}

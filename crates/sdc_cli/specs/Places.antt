@@ -3,7 +3,7 @@
 use Rattle.std.specs.Prelude.{◌≡◌, ℕ, List, String}
 use Rattle.std.specs.BTreeMap.{BTreeMap, get_by_text}
 use Rattle.timing_types.specs.declared.clocks.Clock.{Clock}
-use Rattle.sdc_model.specs.ClockGroups.{place_from}
+use Rattle.mode_model.specs.ClockGroups.{place_from}
 
 -- the map has the places of these clocks
 abbrev pub HasPlaces : {A : Type 0} → BTreeMap (String A) ℕ → List Clock → Type 0

@@ -60,6 +60,6 @@ merge_tree report =
 abbrev pub tree_of : Report → Data
 tree_of (Merge report) = merge_tree report
 
--- the value without a space, and a newline behind it
+-- the value without a space, and a newline after it
 abbrev pub report_bytes : Report → List ℕ
 report_bytes report = compact_text (tree_of report) ++ codes "\n"

@@ -1,19 +1,19 @@
--- What the steps of a run answer and leave, one behind the other. Small words for this crate's private functions: what
+-- What the steps of a run answer and leave, one after the other. Small words for this crate's private functions: what
 -- the whole run answers and leaves is said by `Answers` of sdc_model.
 use Rattle.std.specs.Prelude.{◌≡◌, ◌⊎◌, ℕ, List, Option, Some, Result, Ok, Err}
 use Rattle.sdc_base.specs.declared.outside.Refusal.{Refusal}
 use Rattle.sdc_base.specs.Channels.{Written}
 use Rattle.sdc_base.specs.Counting.{Rose}
 use Rattle.sdc_base.specs.Files.{Reading, bytes_of}
-use Rattle.source_types.specs.declared.answers.Status.{Status}
-use Rattle.source_types.specs.declared.answers.Status.TheVariants as status
-use Rattle.source_types.specs.declared.command_lines.CommandLine.{CommandLine}
-use Rattle.source_types.specs.declared.command_lines.Output.{Output}
+use Rattle.sdc_model.specs.declared.answers.Status.{Status}
+use Rattle.sdc_model.specs.declared.answers.Status.TheVariants as status
+use Rattle.sdc_model.specs.declared.command_lines.CommandLine.{CommandLine}
+use Rattle.sdc_model.specs.declared.command_lines.Output.{Output}
 use Rattle.timing_types.specs.declared.modes.Mode.{Mode}
 use Rattle.sdc_model.specs.Answers.{FailsReading, IsPlaceOf, LineModes, WritesFront, WritesWhole, files_of, first_place, most_clocks}
 use Rattle.sdc_model.specs.ModeFiles.{SaysFile}
 
--- What reading the file of a name at a place of the words answers, behind so many clocks: its mode, or a fault of it.
+-- What reading the file of a name at a place of the words answers, after so many clocks: its mode, or a fault of it.
 -- The files stay, and the file is begun, or else, where its read failed, what was begun before.
 abbrev pub ReadsMode : ℕ → ℕ → ℕ → List ℕ → Result Mode Status → Reading → Reading → Type 0
 ReadsMode most count place name (Ok mode) before after =
@@ -54,6 +54,12 @@ WritesOutput made output status.Done before after = WritesWhole made output befo
 WritesOutput made output status.WriteFault before after = (after ≡ before) ⊎ WritesFront made output before after
 WritesOutput made output status.NoMemory before after = (after ≡ before) ⊎ WritesFront made output before after
 WritesOutput made output _ before after = ⊥
+
+-- the count of faults stayed where the work is done
+abbrev pub QuietWhenDone : ℕ → ℕ → Status → Type 0
+QuietWhenDone before after status.Done = after ≡ before
+QuietWhenDone before after status.Findings = after ≡ before
+QuietWhenDone before after _ = Unit {0}
 
 -- what making the merged file and writing it and the report answers and leaves
 abbrev pub WritesBoth : List ℕ → Output → Result Unit Refusal → Written → Written → Type 0

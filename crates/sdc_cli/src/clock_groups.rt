@@ -1,17 +1,17 @@
-//! Groups of clocks (SDC 2.1, `set_clock_groups`), by the words behind the command's name.
+//! Groups of clocks (SDC 2.1, `set_clock_groups`), by the words after the command's name.
 
 ghost use Rattle.std.specs.Prelude.{◌≡◌, ◌==◌, length, IfOk};
 ghost use Rattle.std.specs.List.{list_any};
-ghost use Rattle.sdc_model.specs.ClockCommands.{group_options, groups_given, groups_of, groups_placed, no_groups, with_effect, with_group_word};
-ghost use Rattle.sdc_model.specs.ClockGroups.{clock_place, clock_places, group_of, places_in, places_of};
+ghost use Rattle.mode_model.specs.ClockCommands.{group_options, groups_given, groups_of, groups_placed, no_groups, with_effect, with_group_word};
+ghost use Rattle.mode_model.specs.ClockGroups.{clock_place, clock_places, group_of, places_in, places_of};
 
 use crate::items::items_of;
 use crate::named_clocks::NamedClocks;
 use crate::object_names::value_text;
 use sdc_base::{Duplicate, List, NoMemory, Text};
-use sdc_model::{Clock, Object, Value};
 use std::alloc::Global;
 use std::marker::Model;
+use timing_types::{Clock, Object, Value};
 
 /// The options of groups that are given. Contracts see `GroupOptions`.
 #[derive(Drop)]
@@ -22,14 +22,14 @@ struct GivenGroups {
 }
 
 impl Model for GivenGroups {
-    ghost use Rattle.sdc_model.specs.ClockCommands.{GroupOptions};
+    ghost use Rattle.mode_model.specs.ClockCommands.{GroupOptions};
 
     ghost Value = { GroupOptions };
 
     ghost view = { λ it. record { asynchronous = it.asynchronous; groups = it.groups; expects = it.expects } };
 }
 
-/// The groups of a command as places of clocks, by the words behind its name: `-asynchronous` and at least one group,
+/// The groups of a command as places of clocks, by the words after its name: `-asynchronous` and at least one group,
 /// in any order; `None` where they are not these or a name is no clock's. None of the groups counts where one is empty.
 /// The one error is want of memory.
 pub fn groups_of(
@@ -71,7 +71,7 @@ fn group_options(
     }
 }
 
-/// These options and one more word: a group behind `-group`, or else an option. The one error is want of memory.
+/// These options and one more word: a group after `-group`, or else an option. The one error is want of memory.
 fn with_word(
     alloc: Global,
     clocks: &[Clock],

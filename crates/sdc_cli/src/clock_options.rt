@@ -1,19 +1,20 @@
-//! The clock that `create_clock` makes (SDC 2.1), by the words behind its name.
+//! The clock that `create_clock` makes (SDC 2.1), by the words after its name.
 
 ghost use Rattle.std.specs.Prelude.{◌≡◌, false, List, IfOk};
 ghost use Rattle.std.specs.Option.{option_copied};
 ghost use Rattle.sdc_base.specs.Gives.{Gives};
-ghost use Rattle.sdc_model.specs.ClockCommands.{clock_by, clock_given, clock_of, clock_options, clock_waved, new_clock, no_options, value_text, value_texts, with_clock_word, with_option};
-ghost use Rattle.sdc_model.specs.ClockFile.{is_taken};
+ghost use Rattle.mode_model.specs.ClockCommands.{clock_by, clock_given, clock_of, clock_options, clock_waved, new_clock, no_options, value_text, value_texts, with_clock_word, with_option};
+ghost use Rattle.mode_model.specs.ClockFile.{is_taken};
 
 use crate::mode_so_far::{is_name, virtual_clock};
 use crate::named_clocks::NamedClocks;
 use crate::object_names::value_text;
 use crate::waveforms::wave_given;
 use sdc_base::{NoMemory, Stop, Text};
-use sdc_model::{Clock, SdcKind, Value, Wave};
+use source_types::SdcKind;
 use std::alloc::Global;
 use std::marker::Model;
+use timing_types::{Clock, Value, Wave};
 
 /// The most clocks of a file, and of all modes of a merge.
 pub(crate) const MOST_CLOCKS: usize = 16384;
@@ -28,7 +29,7 @@ struct GivenOptions {
 }
 
 impl Model for GivenOptions {
-    ghost use Rattle.sdc_model.specs.ClockCommands.{ClockOptions};
+    ghost use Rattle.mode_model.specs.ClockCommands.{ClockOptions};
 
     ghost Value = { ClockOptions };
 
@@ -128,7 +129,7 @@ fn with_word(
     Ok(given.with_word(word))
 }
 
-/// The options of these words, each with its value behind it. The one error is want of memory.
+/// The options of these words, each with its value after it. The one error is want of memory.
 fn options_of(
     alloc: Global,
     clocks: &[Clock],
@@ -150,7 +151,7 @@ fn options_of(
     }
 }
 
-/// The clock of a command on a line, by the words behind its name. `OutOfProfile` where an option or a value is not
+/// The clock of a command on a line, by the words after its name. `OutOfProfile` where an option or a value is not
 /// read here, or the name is taken; else `TooMany` where the file has 16,384 clocks.
 pub fn clock_of(
     alloc: Global,

@@ -4,16 +4,16 @@ ghost use Rattle.std.specs.Prelude.{◌≡◌, map, IfOk, OnOk};
 ghost use Rattle.std.specs.BTreeSet.{insert_key};
 ghost use Rattle.std.specs.Option.{option_map};
 ghost use Rattle.std.specs.Ordering.{nat_cmp};
-ghost use Rattle.sdc_model.specs.ClockCommands.{clocks_named, in_order};
-ghost use Rattle.sdc_model.specs.ClockGroups.{places_in};
+ghost use Rattle.mode_model.specs.ClockCommands.{clocks_named, in_order};
+ghost use Rattle.mode_model.specs.ClockGroups.{places_in};
 ghost use Rattle.timing_types.specs.declared.objects.Object.TheVariants as object;
 
 use crate::clock_groups::places_in;
 use crate::named_clocks::NamedClocks;
 use sdc_base::{Duplicate, List, NoMemory};
-use sdc_model::{Object, Value};
 use std::alloc::Global;
 use std::collections::BTreeSet;
+use timing_types::{Object, Value};
 
 /// The clocks of a list of names in order, each once; objects are given back; `None` where the words are not these or a
 /// name is no clock's. The one error is want of memory.

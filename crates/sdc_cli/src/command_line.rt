@@ -2,7 +2,7 @@
 
 ghost use Rattle.std.specs.Prelude.{◌≡◌, ◌≤◌, ◌<◌, ◌++◌, Some, length, option_and_then, IfOk, IfSome, OnOk};
 ghost use Rattle.sdc_model.specs.Answers.{files_of};
-ghost use Rattle.sdc_model.specs.CommandLine.{is_option, arguments_of, are_some, is_budget, is_dash, behind_number, behind_option, merge_arguments, edges_line, merge_line, command_line, words_of};
+ghost use Rattle.sdc_model.specs.CommandLine.{is_option, arguments_of, are_some, is_budget, is_dash, after_number, after_option, merge_arguments, edges_line, merge_line, command_line, words_of};
 
 use sdc_base::{Duplicate, List, NoMemory, Text};
 use sdc_model::CommandLine;
@@ -31,7 +31,7 @@ pub fn command_line(alloc: Global, words: &[String]) -> Result<Option<CommandLin
     Ok(None)
 }
 
-/// `edges` of the words behind it.
+/// `edges` of the words after it.
 fn edges_words(alloc: Global, words: &[String]) -> Result<Option<CommandLine>, NoMemory>
     ensures line { IfOk result (λ line. line ≡ option_and_then edges_line (arguments_of (words_of words.now))) }
     ensures few { IfOk result (λ line. IfSome line (λ l. length (files_of l) ≤ 16)) }
@@ -54,7 +54,7 @@ fn edges_line(files: List<Text>) -> Option<CommandLine>
     }
 }
 
-/// `merge` of the words behind it.
+/// `merge` of the words after it.
 fn merge_words(alloc: Global, words: &[String]) -> Result<Option<CommandLine>, NoMemory>
     ensures line { IfOk result
         (λ line. line ≡ option_and_then merge_line (merge_arguments (words_of words.now))) }
@@ -125,14 +125,14 @@ fn arguments(alloc: Global, words: &[String]) -> Result<Option<List<Text>>, NoMe
     Ok(Some(found))
 }
 
-/// The arguments among words behind `merge`, or nothing where an option stands among them that it has not.
+/// The arguments among words after `merge`, or nothing where an option stands among them that it has not.
 fn merge_arguments(alloc: Global, words: &[String]) -> Result<Option<List<Text>>, NoMemory>
     ensures { IfOk result (λ found. found ≡ merge_arguments (words_of words.now)) }
 {
     let mut found = List::new(alloc);
     for (at, word) in words.iter().enumerate() {
         if is_option(word.as_str()) {
-            let others = behind_option(alloc, word.as_str(), &words[at + 1..])?;
+            let others = after_option(alloc, word.as_str(), &words[at + 1..])?;
             return joined(found, others);
         }
         found.push(Text::from_str(alloc, word.as_str())?)?;
@@ -154,19 +154,15 @@ fn joined(first: List<Text>, others: Option<List<Text>>) -> Result<Option<List<T
     }
 }
 
-/// The arguments behind a word that is an option: `--`, `--tags` or `--tags=N`.
-fn behind_option(
-    alloc: Global,
-    word: &str,
-    words: &[String],
-) -> Result<Option<List<Text>>, NoMemory>
-    ensures { IfOk result (λ found. found ≡ behind_option word.now (words_of words.now)) }
+/// The arguments after a word that is an option: `--`, `--tags` or `--tags=N`.
+fn after_option(alloc: Global, word: &str, words: &[String]) -> Result<Option<List<Text>>, NoMemory>
+    ensures { IfOk result (λ found. found ≡ after_option word.now (words_of words.now)) }
 {
     if word == "--" {
         return Ok(Some(texts(alloc, words)?));
     }
     if word == "--tags" {
-        return behind_number(alloc, words);
+        return after_number(alloc, words);
     }
     match word.strip_prefix("--tags=") {
         Some(number) if is_budget(number) => arguments(alloc, words),
@@ -174,9 +170,9 @@ fn behind_option(
     }
 }
 
-/// The arguments behind `--tags`: its number, and words without a further option.
-fn behind_number(alloc: Global, words: &[String]) -> Result<Option<List<Text>>, NoMemory>
-    ensures { IfOk result (λ found. found ≡ behind_number (words_of words.now)) }
+/// The arguments after `--tags`: its number, and words without a further option.
+fn after_number(alloc: Global, words: &[String]) -> Result<Option<List<Text>>, NoMemory>
+    ensures { IfOk result (λ found. found ≡ after_number (words_of words.now)) }
 {
     match words.split_first() {
         Some((number, words)) if is_budget(number.as_str()) => arguments(alloc, words),

@@ -2,16 +2,17 @@
 
 ghost use Rattle.std.specs.Prelude.{◌≡◌, ◌++◌, ◌∷◌, [], ℕ, List, length, IfOk, OnOk};
 ghost use Rattle.sdc_model.specs.EdgesText.{Appends, AreReports, IsReport, AreLines, AreLinesFrom, edge_text, relation_text, edge_word, clock_edges, edges_of, nanoseconds_text, IsTimed, AreTimed, HaveTimes, ModesHaveTimes};
-ghost use Rattle.sdc_model.specs.Relation.{IsRelation};
+ghost use Rattle.timing_model.specs.Relation.{IsRelation};
 ghost use Rattle.sdc_cli.specs.LineParts.{front_text, line_rest};
 
 use crate::waveforms::NANOSECOND;
 use clock_tree::relation;
+use pin_types::Edge;
 use sdc_base::{Duplicate, List, NoMemory, Text, TimeBuffer};
-use sdc_model::{Clock, Edge, Form, Mode, Relation, TimedEdge};
 use std::alloc::Global;
+use timing_types::{Clock, Form, Mode, Relation, TimedEdge};
 
-/// The reports of files, of which these are the modes, one behind the other.
+/// The reports of files, of which these are the modes, one after the other.
 pub fn report_text(alloc: Global, files: &[Text], modes: &[Mode]) -> Result<Vec<u8>, NoMemory>
     requires same_length { length files.now ≡ length modes.now }
     requires timed { ModesHaveTimes modes.now }

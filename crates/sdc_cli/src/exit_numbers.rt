@@ -12,8 +12,12 @@ pub fn exit_number(status: &Status) -> u8
 {
     match status {
         Status::Done => 0,
+        Status::Findings => 1,
         Status::Usage => 2,
         Status::Source(_) => 3,
+        Status::Loop(_) => 4,
+        Status::Conflict { .. } => 5,
+        Status::Budget(_) => 6,
         Status::ReadFault(_) => 7,
         Status::WriteFault => 8,
         Status::NoMemory => 9,
@@ -24,7 +28,10 @@ pub fn exit_number(status: &Status) -> u8
 #[cfg(test)]
 mod tests {
     use super::*;
-    use sdc_model::{Fault, Kind, SdcKind};
+    use pin_types::Pin;
+    use sdc_base::List;
+    use source_types::{Fault, Kind, SdcKind};
+    use timing_types::Cycle;
 
     #[test]
     fn exit_numbers_of_all_answers(rt: HostRuntime) {
@@ -33,10 +40,22 @@ mod tests {
             line: 3,
             kind: Kind::Sdc(SdcKind::OutOfProfile),
         };
+        let cycle = Cycle {
+            nodes: List::new(rt.alloc()),
+        };
+        let conflict = Status::Conflict {
+            pin: Pin(7),
+            source_mode: 0,
+            passing_mode: 1,
+        };
         for (status, number) in [
             (Status::Done, 0),
+            (Status::Findings, 1),
             (Status::Usage, 2),
             (Status::Source(fault), 3),
+            (Status::Loop(cycle), 4),
+            (conflict, 5),
+            (Status::Budget(9), 6),
             (Status::ReadFault(1), 7),
             (Status::WriteFault, 8),
             (Status::NoMemory, 9),

@@ -2,22 +2,23 @@
 
 ghost use Rattle.std.specs.Prelude.{◌≡◌, ◌≤◌, ◌++◌, [], Err, IfOk, OnOk, decimal, slice_get};
 ghost use Rattle.std.specs.Option.{option_copied, unwrap_or};
-ghost use Rattle.sdc_base.specs.Channels.{WritesAll};
 ghost use Rattle.sdc_base.specs.Counting.{Rose};
-ghost use Rattle.sdc_model.specs.Answers.{OnTold};
-ghost use Rattle.sdc_model.specs.FaultLine.{fault_line, source_line, too_large_line, unread_line, word_at, word_of};
-ghost use Rattle.sdc_cli.specs.Announced.{Announces, EndsAs, NamesWriteFault};
+ghost use Rattle.sdc_model.specs.Answers.{OnContents};
+ghost use Rattle.sdc_model.specs.FaultLine.{budget_line, fault_line, source_line, too_large_line, unread_line, word_at, word_of};
+ghost use Rattle.sdc_cli.specs.Announced.{Announces, EndsAs, NamesWriteFault, WritesLine};
+ghost use Rattle.sdc_cli.specs.Steps.{QuietWhenDone};
 
 use crate::kind_names::kind_name;
 use itoa::Buffer;
 use sdc_base::{Channel, NoMemory, Outputs, Refusal, Text, write_all};
-use sdc_model::{CommandLine, Fault, Status};
+use sdc_model::{CommandLine, Status};
+use source_types::Fault;
 use std::alloc::Global;
 
 /// Writes the line of a status to `Channel::Faults`, and gives the status that a run ends with: the same, or `NoMemory`
 /// where memory ran out while the line was made or written. No other line is begun then. A write that fails changes
 /// nothing. There is a command line where the words are one.
-#[tactic(auto, using(crate::proofs::Announcements::announced, crate::proofs::Announcements::announced_in_part, crate::proofs::Announcements::announced_without_memory, crate::proofs::Announcements::nothing_announced, crate::proofs::WriteFaultLines::named, crate::proofs::WriteFaultLines::named_in_part, crate::proofs::WriteFaultLines::named_without_memory, crate::proofs::WriteFaultLines::nothing_named))]
+#[tactic(auto, using(crate::proofs::Announcements::ends_same, crate::proofs::Announcements::quiet_other, crate::proofs::Announcements::announced, crate::proofs::Announcements::announced_in_part, crate::proofs::Announcements::announced_without_memory, crate::proofs::Announcements::nothing_announced, crate::proofs::Announcements::nothing_announced_of_findings, crate::proofs::WriteFaultLines::named, crate::proofs::WriteFaultLines::named_in_part, crate::proofs::WriteFaultLines::named_without_memory, crate::proofs::WriteFaultLines::nothing_named, crate::proofs::WriteFaultLines::nothing_named_of_findings))]
 pub fn announce<O: Outputs>(
     alloc: Global,
     line: Option<&CommandLine>,
@@ -25,15 +26,19 @@ pub fn announce<O: Outputs>(
     outputs: &mut O,
 ) -> Status
     ensures ends { EndsAs status result }
-    ensures announces { OnTold (Announces (option_copied line.entry) status
+    ensures announces { OnContents (Announces (option_copied line.entry) status
         (Rose (O.faults outputs.old) (O.faults outputs.new)) result)
-        (O.told outputs.old) (O.told outputs.new) }
-    ensures names { OnTold (NamesWriteFault (Rose (O.faults outputs.old) (O.faults outputs.new))
-        result) (O.told outputs.old) (O.told outputs.new) }
+        (O.contents outputs.old) (O.contents outputs.new) }
+    ensures names { OnContents (NamesWriteFault (Rose (O.faults outputs.old) (O.faults outputs.new))
+        result) (O.contents outputs.old) (O.contents outputs.new) }
     ensures counts { O.faults outputs.old ≤ O.faults outputs.new }
+    ensures quiet { QuietWhenDone (O.faults outputs.old) (O.faults outputs.new) status }
 {
     if let Status::Done = status {
         return Status::Done;
+    }
+    if let Status::Findings = status {
+        return Status::Findings;
     }
     match write_line(alloc, line, &status, outputs) {
         Ok(()) => status,
@@ -51,8 +56,8 @@ fn write_line<O: Outputs>(
     status: &Status,
     outputs: &mut O,
 ) -> Result<(), Refusal>
-    ensures writes { WritesAll Channel.Faults (fault_line (option_copied line.entry) status.now) result
-        (O.told outputs.old) (O.told outputs.new) }
+    ensures writes { WritesLine (fault_line (option_copied line.entry) status.now) result
+        (O.contents outputs.old) (O.contents outputs.new) }
     ensures counts { O.faults outputs.old ≤ O.faults outputs.new }
     ensures failed { result ≡ Err Refusal.Failed
         → Rose (O.faults outputs.old) (O.faults outputs.new) }
@@ -90,8 +95,12 @@ fn append_line(
 {
     match status {
         Status::Done => Ok(()),
+        Status::Findings => Ok(()),
         Status::Usage => append(text, b"wrong command line\n"),
         Status::Source(fault) => append_source(text, word_of(line, fault.file), fault),
+        Status::Loop(_) => Ok(()),
+        Status::Conflict { .. } => Ok(()),
+        Status::Budget(classes) => append_budget(text, *classes),
         Status::ReadFault(place) => append_unread(text, word_of(line, *place)),
         Status::WriteFault => append(text, b"cannot write\n"),
         Status::NoMemory => append(text, b"out of memory\n"),
@@ -134,6 +143,15 @@ fn append_too_large(text: &mut Vec<u8>, bytes: u64) -> Result<(), NoMemory>
     let mut number = Buffer::new();
     let number = number.format(bytes).as_bytes();
     append_three(text, b"merged file would have ", number, b" bytes\n")
+}
+
+/// Appends `budget of N classes exceeded`.
+fn append_budget(text: &mut Vec<u8>, classes: u64) -> Result<(), NoMemory>
+    ensures { OnOk result (text.new.items ≡ text.old.items ++ budget_line classes) }
+{
+    let mut number = Buffer::new();
+    let number = number.format(classes).as_bytes();
+    append_three(text, b"budget of ", number, b" classes exceeded\n")
 }
 
 /// Appends three pieces of a line.

@@ -1,12 +1,15 @@
 //! Files of the operating system, as inputs.
 
-ghost use Rattle.std.specs.Prelude.{◌≡◌, None};
+ghost use Rattle.std.specs.Prelude.{◌≡◌, ◌≤◌, None, IfOk, OnOk, OnErr, IsSome, length};
+ghost use Rattle.sdc_base.specs.Counting.{Rose};
+ghost use Rattle.sdc_base.specs.Files.{Begins, Reads};
+ghost use Rattle.sdc_cli.specs.Streams.{Holds, ReadsHeld};
 
 use crate::fault_count::counted;
 use sdc_base::{Inputs, Refusal};
-use std::fs;
 use std::io::{ErrorKind, Read};
 use std::rt::Files;
+use std::{fs, io};
 
 /// The files that a runtime reaches, read one at a time. It tells no bytes, since no contract can say what
 /// a disk gives, and counts each error.
@@ -28,26 +31,61 @@ impl<'a, R: Files> FileInputs<'a, R> {
             faults: 0,
         }
     }
-}
 
-impl<'a, R: Files> Inputs for FileInputs<'a, R> {
-    ghost told = { λ _. None };
-
-    ghost faults = { λ inputs. inputs.faults };
-
-    /// Opens a file. One that cannot be opened is a fault, and the file that was begun stays.
-    fn begin(&mut self, name: &str) -> Result<(), Refusal> {
-        let file = counted(fs::open(self.rt, name), &mut self.faults)?;
+    /// Takes the file that was opened as the one that is read next. One that could not be opened is a
+    /// fault, and the file that was begun stays.
+    fn take(&mut self, opened: io::Result<R::File>) -> Result<(), Refusal>
+        ensures holds { Holds opened result self.old.file self.new.file }
+        ensures faults { self.old.faults ≤ self.new.faults }
+        ensures quiet { OnOk result (self.new.faults ≡ self.old.faults) }
+        ensures failed { result ≡ Err Refusal.Failed → Rose self.old.faults self.new.faults }
+    {
+        let file = counted(opened, &mut self.faults)?;
         self.file = Some(file);
         Ok(())
     }
 
-    /// Reads as much as one call of the system gives. With no file begun it is a fault.
-    fn read(&mut self, buffer: &mut [u8]) -> Result<usize, Refusal> {
-        let read = match &mut self.file {
+    /// What one call of the system gives of the file. With no file begun it is an error.
+    fn give(&mut self, buffer: &mut [u8]) -> io::Result<usize>
+        ensures gives { ReadsHeld R.File.remaining result buffer.new self.old.file self.new.file }
+        ensures within { IfOk result (λ count. count ≤ length buffer.old) }
+        ensures faults { self.new.faults ≡ self.old.faults }
+    {
+        match &mut self.file {
             Some(file) => file.read(buffer),
             None => Err(ErrorKind::NotFound.into()),
-        };
+        }
+    }
+}
+
+impl<'a, R: Files> Inputs for FileInputs<'a, R> {
+    ghost contents = { λ _. None };
+
+    ghost faults = { λ inputs. inputs.faults };
+
+    /// Opens a file. One that cannot be opened is a fault, and the file that was begun stays.
+    fn begin(&mut self, name: &str) -> Result<(), Refusal>
+        ensures begun { OnOk result (IsSome self.new.file) }
+        ensures stays { OnErr result (self.new.file ≡ self.old.file) }
+        ensures begins { Begins name.now result None None }
+        ensures faults { self.old.faults ≤ self.new.faults }
+        ensures quiet { OnOk result (self.new.faults ≡ self.old.faults) }
+        ensures failed { result ≡ Err Refusal.Failed → Rose self.old.faults self.new.faults }
+    {
+        let opened = fs::open(self.rt, name);
+        self.take(opened)
+    }
+
+    /// Reads as much as one call of the system gives. With no file begun it is a fault.
+    fn read(&mut self, buffer: &mut [u8]) -> Result<usize, Refusal>
+        ensures gives { ReadsHeld R.File.remaining result buffer.new self.old.file self.new.file }
+        ensures within { IfOk result (λ count. count ≤ length buffer.old) }
+        ensures reads { Reads (length buffer.old) buffer.new result None None }
+        ensures faults { self.old.faults ≤ self.new.faults }
+        ensures quiet { OnOk result (self.new.faults ≡ self.old.faults) }
+        ensures failed { result ≡ Err Refusal.Failed → Rose self.old.faults self.new.faults }
+    {
+        let read = self.give(buffer);
         counted(read, &mut self.faults)
     }
 }

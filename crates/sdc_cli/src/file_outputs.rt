@@ -1,6 +1,10 @@
 //! Files and streams of the operating system, as outputs.
 
-ghost use Rattle.std.specs.Prelude.{◌≡◌, ◌≤◌, ◌<◌, None, IfOk, length};
+ghost use Rattle.std.specs.Prelude.{◌≡◌, ◌≤◌, ◌<◌, None, IfOk, OnOk, OnErr, IsSome, length};
+ghost use Rattle.std.specs.Io.KnownBytes.{WriteAppends};
+ghost use Rattle.sdc_base.specs.Counting.{Rose};
+ghost use Rattle.sdc_base.specs.Channels.{Creates, Writes};
+ghost use Rattle.sdc_cli.specs.Streams.{Holds, WritesFile, WritesOwn};
 
 use crate::fault_count::counted;
 use sdc_base::{Channel, Outputs, Refusal};
@@ -19,10 +23,25 @@ pub struct FileOutputs<'a, R: Files, Report: Write, Faults: Write> {
     faults: u64,
 }
 
+/// What a stream takes of a piece. Taking nothing of a piece that is not empty is an error.
+fn offer<W: Write>(stream: &mut W, piece: &[u8]) -> io::Result<usize>
+    ensures takes { WriteAppends (W.contents stream.old) (W.contents stream.new) result piece.now }
+    ensures within { IfOk result (λ count. count ≤ length piece.now) }
+    ensures some { IfOk result (λ count. 0 < length piece.now → 0 < count) }
+{
+    let taken = stream.write(piece)?;
+    if taken == 0 && !piece.is_empty() {
+        return Err(ErrorKind::WriteZero.into());
+    }
+    Ok(taken)
+}
+
 impl<'a, R: Files, Report: Write, Faults: Write> FileOutputs<'a, R, Report, Faults> {
     /// Over these streams for `Channel::Report` and `Channel::Faults`; no merged file, and no fault so far.
     pub fn new(rt: &'a R, report: Report, refusals: Faults) -> FileOutputs<'a, R, Report, Faults>
-        ensures { result.faults ≡ 0 }
+        ensures report { result.report ≡ report }
+        ensures refusals { result.refusals ≡ refusals }
+        ensures faults { result.faults ≡ 0 }
     {
         FileOutputs {
             rt,
@@ -33,42 +52,79 @@ impl<'a, R: Files, Report: Write, Faults: Write> FileOutputs<'a, R, Report, Faul
         }
     }
 
-    /// What the stream or file of a channel takes of a piece. Taking nothing of a piece that is not empty
-    /// is an error, and so is the merged file before it was created.
+    /// What the stream or file of a channel takes of a piece; the merged file before it was created is an error.
     fn put(&mut self, channel: Channel, piece: &[u8]) -> io::Result<usize>
+        ensures report { WritesOwn Report.contents Channel.Report channel result piece.now
+            self.old.report self.new.report }
+        ensures refusals { WritesOwn Faults.contents Channel.Faults channel result piece.now
+            self.old.refusals self.new.refusals }
+        ensures merged { WritesFile R.File.contents channel result piece.now
+            self.old.merged self.new.merged }
         ensures within { IfOk result (λ count. count ≤ length piece.now) }
         ensures some { IfOk result (λ count. 0 < length piece.now → 0 < count) }
         ensures faults { self.new.faults ≡ self.old.faults }
     {
-        let taken = match channel {
-            Channel::Report => self.report.write(piece)?,
-            Channel::Faults => self.refusals.write(piece)?,
+        match channel {
+            Channel::Report => offer(&mut self.report, piece),
+            Channel::Faults => offer(&mut self.refusals, piece),
             Channel::Merged => match &mut self.merged {
-                Some(file) => file.write(piece)?,
-                None => return Err(ErrorKind::NotFound.into()),
+                Some(file) => offer(file, piece),
+                None => Err(ErrorKind::NotFound.into()),
             },
-        };
-        if taken == 0 && !piece.is_empty() {
-            return Err(ErrorKind::WriteZero.into());
         }
-        Ok(taken)
+    }
+
+    /// Takes the file that was made as the merged file. One that could not be made is a fault, and the
+    /// merged file stays.
+    fn take(&mut self, made: io::Result<R::File>) -> Result<(), Refusal>
+        ensures holds { Holds made result self.old.merged self.new.merged }
+        ensures report { self.new.report ≡ self.old.report }
+        ensures refusals { self.new.refusals ≡ self.old.refusals }
+        ensures faults { self.old.faults ≤ self.new.faults }
+        ensures quiet { OnOk result (self.new.faults ≡ self.old.faults) }
+        ensures failed { result ≡ Err Refusal.Failed → Rose self.old.faults self.new.faults }
+    {
+        let file = counted(made, &mut self.faults)?;
+        self.merged = Some(file);
+        Ok(())
     }
 }
 
 impl<'a, R: Files, Report: Write, Faults: Write> Outputs for FileOutputs<'a, R, Report, Faults> {
-    ghost told = { λ _. None };
+    ghost contents = { λ _. None };
 
     ghost faults = { λ outputs. outputs.faults };
 
     /// Makes a file, or empties the one of this name. One that cannot be made is a fault.
-    fn create(&mut self, name: &str) -> Result<(), Refusal> {
-        let file = counted(fs::create(self.rt, name), &mut self.faults)?;
-        self.merged = Some(file);
-        Ok(())
+    fn create(&mut self, name: &str) -> Result<(), Refusal>
+        ensures made { OnOk result (IsSome self.new.merged) }
+        ensures stays { OnErr result (self.new.merged ≡ self.old.merged) }
+        ensures report { self.new.report ≡ self.old.report }
+        ensures refusals { self.new.refusals ≡ self.old.refusals }
+        ensures creates { Creates name.now result None None }
+        ensures faults { self.old.faults ≤ self.new.faults }
+        ensures quiet { OnOk result (self.new.faults ≡ self.old.faults) }
+        ensures failed { result ≡ Err Refusal.Failed → Rose self.old.faults self.new.faults }
+    {
+        let made = fs::create(self.rt, name);
+        self.take(made)
     }
 
     /// Writes as much as one call of the system takes.
-    fn write(&mut self, channel: Channel, piece: &[u8]) -> Result<usize, Refusal> {
+    fn write(&mut self, channel: Channel, piece: &[u8]) -> Result<usize, Refusal>
+        ensures report { WritesOwn Report.contents Channel.Report channel result piece.now
+            self.old.report self.new.report }
+        ensures refusals { WritesOwn Faults.contents Channel.Faults channel result piece.now
+            self.old.refusals self.new.refusals }
+        ensures merged { WritesFile R.File.contents channel result piece.now
+            self.old.merged self.new.merged }
+        ensures within { IfOk result (λ count. count ≤ length piece.now) }
+        ensures some { IfOk result (λ count. 0 < length piece.now → 0 < count) }
+        ensures writes { Writes channel piece.now result None None }
+        ensures faults { self.old.faults ≤ self.new.faults }
+        ensures quiet { OnOk result (self.new.faults ≡ self.old.faults) }
+        ensures failed { result ≡ Err Refusal.Failed → Rose self.old.faults self.new.faults }
+    {
         let taken = self.put(channel, piece);
         counted(taken, &mut self.faults)
     }

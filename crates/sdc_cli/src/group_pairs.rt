@@ -2,14 +2,14 @@
 
 ghost use Rattle.std.specs.Prelude.{◌≡◌, ◌+◌, ◌++◌, ◌<◌, drop, length, OnOk, IfOk};
 ghost use Rattle.std.specs.List.Sorted.{IsStrictlySortedBy};
-ghost use Rattle.sdc_model.specs.ClockFile.{pairs_apart};
-ghost use Rattle.sdc_model.specs.ClockGroups.{every_two, others_from, set_apart};
+ghost use Rattle.mode_model.specs.ClockFile.{pairs_apart};
+ghost use Rattle.mode_model.specs.ClockGroups.{every_two, others_from, set_apart};
 ghost use Rattle.sdc_cli.specs.Exclusive.{CommandsBelow, HasMore, HasSame, pair_cmp, parts, parts_some, parts_any, parts_each, parts_in};
 
 use sdc_base::{List, NoMemory};
-use sdc_model::Pair;
 use std::alloc::Global;
 use std::collections::BTreeSet;
+use timing_types::Pair;
 
 /// The pairs of different clocks, of so many, that the groups of commands set against each other: the lesser place
 /// first, in order, each once. The one error is want of memory.
@@ -97,13 +97,13 @@ fn part_every_two(
     ensures { OnOk result (HasMore pairs.old pairs.new (parts_in (every_two groups.now))) }
 {
     for (at, group) in groups.iter().enumerate() {
-        part_each(alloc, pairs, group.as_slice(), behind(groups, at))?;
+        part_each(alloc, pairs, group.as_slice(), after(groups, at))?;
     }
     Ok(())
 }
 
-/// The groups behind a place.
-fn behind(groups: &[List<u32>], at: usize) -> &[List<u32>]
+/// The groups after a place.
+fn after(groups: &[List<u32>], at: usize) -> &[List<u32>]
     requires { at < length groups.now }
     ensures { result.now ≡ drop (at + 1) groups.now }
 {

@@ -1,7 +1,7 @@
 //! Lists that stand in a mode file (Tcl).
 
 ghost use Rattle.std.specs.Prelude.{◌≡◌, IfOk};
-ghost use Rattle.sdc_model.specs.ListReading.{items_of};
+ghost use Rattle.tcl_model.specs.ListReading.{items_of};
 
 use sdc_base::{List, NoMemory, Stop, Text};
 use std::alloc::Global;

@@ -4,7 +4,8 @@
 ghost use Rattle.std.specs.Prelude.{◌≡◌};
 ghost use Rattle.sdc_model.specs.FaultLine.{design_name, kind_name, lib_name, mode_name, sdc_name, tcl_name, verilog_name};
 
-use sdc_model::{DesignKind, Kind, LibKind, ModeKind, SdcKind, TclKind, VerilogKind};
+use pin_types::ModeKind;
+use source_types::{DesignKind, Kind, LibKind, SdcKind, TclKind, VerilogKind};
 
 /// The name of a kind in its group, or its own where it is in none.
 pub(crate) fn kind_name(kind: Kind) -> &'static str

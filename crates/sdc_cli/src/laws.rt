@@ -3,9 +3,9 @@
 ghost use Rattle.std.specs.Prelude.{ℕ, List};
 ghost use Rattle.sdc_base.specs.declared.outside.NamedBytes.{NamedBytes};
 ghost use Rattle.sdc_base.specs.Files.{Reading};
-ghost use Rattle.source_types.specs.declared.command_lines.CommandLine.{CommandLine};
+ghost use Rattle.sdc_model.specs.declared.command_lines.CommandLine.{CommandLine};
 ghost use Rattle.timing_types.specs.declared.modes.Mode.{Mode};
-ghost use Rattle.sdc_model.specs.PrintedFile.{ModesArePrintable};
+ghost use Rattle.mode_model.specs.PrintedFile.{ModesArePrintable};
 ghost use Rattle.sdc_cli.specs.Laws.{HasOneAnswer, HasOneOutcome, HaveOneMerge, HaveOneReport, SayPrintableModes};
 
 /// The files of a command line say their modes or have one first fault, and never both. So what `run` answers

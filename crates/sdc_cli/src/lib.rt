@@ -45,4 +45,5 @@ pub use laws::{
     modes_have_one_merge, modes_have_one_report,
 };
 pub use sdc_model::Status;
+pub use source_types::Fault;
 pub use tool::run;

@@ -6,8 +6,8 @@ ghost use Rattle.sdc_cli.specs.MergeRows.{IsNumbered, row_if_numbered, file_cloc
 
 use crate::reports::{ClockRow, MergeReport, ModeClock};
 use sdc_base::{Duplicate, List, NoMemory, Text};
-use sdc_model::{Clock, ClockMap, Mode};
 use std::alloc::Global;
+use timing_types::{Clock, ClockMap, Mode};
 
 /// The report of a merge of modes, whose files have these names, into these clocks. Over the empty design no path
 /// is timed and no command is left. The one error is want of memory.

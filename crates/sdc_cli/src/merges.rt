@@ -2,18 +2,19 @@
 
 ghost use Rattle.std.specs.Prelude.{◌≡◌, ◌+◌, ◌++◌, ◌≤◌, ◌^◌, length, IfOk, IfErr, OnOk};
 ghost use Rattle.sdc_base.specs.declared.memory.Stop.TheVariants as stop;
-ghost use Rattle.sdc_model.specs.MergedMode.{IsMergeOf};
-ghost use Rattle.sdc_model.specs.PlainViews.{own_wave, own_waves, view_of, views_of, clocks_in};
-ghost use Rattle.sdc_model.specs.PrintedFile.{IsOfClocks, ModesArePrintable};
+ghost use Rattle.merge_model.specs.MergedMode.{IsMergeOf};
+ghost use Rattle.merge_model.specs.PlainViews.{own_wave, own_waves, view_of, views_of, clocks_in};
+ghost use Rattle.constraint_model.specs.ModeLines.{IsOfClocks};
+ghost use Rattle.mode_model.specs.PrintedFile.{ModesArePrintable};
 ghost use Rattle.sdc_print.specs.Runs.{groups_text};
 ghost use Rattle.flat_design.specs.EmptyDesign.{empty_design};
 ghost use Rattle.sdc_cli.specs.MergeOutput.{IsMergedLength};
 
 use clock_map::{ExclusiveRows, exclusive_pairs, map_clocks};
 use sdc_base::{Duplicate, List, NoMemory, Stop};
-use sdc_model::{Arrivals, Clock, Design, Form, MergeStop, Merged, Mode, Pair, View, Wave};
 use sdc_print::{length_with_group, printed_length};
 use std::alloc::Global;
+use timing_types::{Arrivals, Clock, Design, Form, MergeStop, Merged, Mode, Pair, View, Wave};
 
 /// The merged mode of modes of clocks and clock groups, over a design without a pin. There no path is timed, so
 /// nothing is listed, nothing is left, and no step of the budget is taken. The one stop is want of memory.
@@ -60,7 +61,7 @@ pub fn merged_length(alloc: Global, design: &Design, modes: &List<Mode>) -> Resu
     Ok(bytes)
 }
 
-/// The number of bytes of a front and of the lines of groups behind it, by the pairs of each first clock.
+/// The number of bytes of a front and of the lines of groups after it, by the pairs of each first clock.
 fn length_with_groups(
     alloc: Global,
     front: u64,

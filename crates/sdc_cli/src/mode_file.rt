@@ -4,19 +4,20 @@ ghost use Rattle.std.specs.Prelude.{◌≡◌, Ok, slice_get};
 ghost use Rattle.std.specs.Option.{option_map};
 ghost use Rattle.sdc_base.specs.Gives.{Gives, Meets};
 ghost use Rattle.timing_types.specs.declared.clocks.Clock.{Clock};
-ghost use Rattle.sdc_model.specs.ClockFile.{clock_mode};
+ghost use Rattle.mode_model.specs.ClockFile.{clock_mode};
 ghost use Rattle.sdc_model.specs.ModeFiles.{within_limit};
-ghost use Rattle.sdc_model.specs.ModeMeaning.{SaysMode, SaysText};
-ghost use Rattle.sdc_model.specs.RunLimits.{line_beyond};
+ghost use Rattle.mode_model.specs.ModeMeaning.{SaysMode, SaysText};
+ghost use Rattle.constraint_model.specs.RunLimits.{line_beyond};
 ghost use Rattle.sdc_cli.specs.ModeBytes.{SaysAtMost, made_mode};
 
 use crate::mode_host::ModeHost;
 use crate::mode_so_far::ModeSoFar;
 use sdc_base::{At, Stop};
-use sdc_model::{Clock, Kind, Mode, SdcKind};
+use source_types::{Kind, SdcKind};
 use std::alloc::Global;
 use tcl_eval::eval;
 use text_lines::no_text_line;
+use timing_types::{Clock, Mode};
 
 /// The mode that the bytes of a file say, or its first fault; `TooMany` where it has more clocks than `most`, with
 /// the line of the first clock beyond them. The clocks are counted before their exclusive pairs are made, which may

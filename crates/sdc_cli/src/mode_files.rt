@@ -1,16 +1,18 @@
 //! The mode files of a command line, read one after the other.
 
-ghost use Rattle.std.specs.Prelude.{◌≡◌, ◌≤◌, ◌<◌, ◌^◌, ◌+◌, length, [], IfOk, IfErr};
-ghost use Rattle.sdc_model.specs.Answers.{files_of, first_place, most_clocks, OnTold};
+ghost use Rattle.std.specs.Prelude.{◌≡◌, ◌≤◌, ◌<◌, ◌^◌, ◌+◌, length, [], IfOk, IfErr, OnOk};
+ghost use Rattle.sdc_model.specs.Answers.{files_of, first_place, most_clocks, OnContents};
 ghost use Rattle.sdc_cli.specs.Steps.{ReadsMode, ReadsModes, StopsAt, StopsReading};
-ghost use Rattle.sdc_model.specs.PlainViews.{clocks_in};
-ghost use Rattle.sdc_model.specs.PrintedFile.{ArePrintableClocks, ModesArePrintable};
+ghost use Rattle.merge_model.specs.PlainViews.{clocks_in};
+ghost use Rattle.mode_model.specs.PrintedFile.{ArePrintableClocks, ModesArePrintable};
 
 use crate::clock_options::MOST_CLOCKS;
 use crate::mode_file::read_mode;
 use sdc_base::{Inputs, List, ReadStop, Stop, Text, read_all};
-use sdc_model::{CommandLine, Fault, Kind, Mode, Status};
+use sdc_model::{CommandLine, Status};
+use source_types::{Fault, Kind};
 use std::alloc::Global;
+use timing_types::Mode;
 
 /// The modes that the files of a command line say; or the status that names what stopped the reading.
 pub fn read_modes<I: Inputs>(
@@ -19,10 +21,11 @@ pub fn read_modes<I: Inputs>(
     inputs: &mut I,
 ) -> Result<List<Mode>, Status>
     requires few { length (files_of line.now) ≤ 16 }
-    ensures told { OnTold (ReadsModes line.now result) (I.told inputs.old) (I.told inputs.new) }
+    ensures contents { OnContents (ReadsModes line.now result) (I.contents inputs.old) (I.contents inputs.new) }
     ensures stops { IfErr result
         (StopsReading line.now (I.faults inputs.old) (I.faults inputs.new)) }
     ensures counts { I.faults inputs.old ≤ I.faults inputs.new }
+    ensures quiet { OnOk result (I.faults inputs.new ≡ I.faults inputs.old) }
     ensures each { IfOk result (λ modes. length modes ≡ length (files_of line.now)) }
     ensures printable { IfOk result ModesArePrintable }
     ensures few_clocks { IfOk result (λ modes. clocks_in modes ≤ most_clocks line.now) }
@@ -70,7 +73,7 @@ pub fn files_of(line: &CommandLine) -> &[Text]
     }
 }
 
-/// The mode that the file of a name says, whose word stands at this place, behind so many clocks of other
+/// The mode that the file of a name says, whose word stands at this place, after so many clocks of other
 /// files.
 fn read_file<I: Inputs>(
     alloc: Global,
@@ -81,10 +84,11 @@ fn read_file<I: Inputs>(
     inputs: &mut I,
 ) -> Result<Mode, Status>
     requires { count ≤ most }
-    ensures told { OnTold (ReadsMode most count place name.now result)
-        (I.told inputs.old) (I.told inputs.new) }
+    ensures contents { OnContents (ReadsMode most count place name.now result)
+        (I.contents inputs.old) (I.contents inputs.new) }
     ensures stops { IfErr result (StopsAt place (I.faults inputs.old) (I.faults inputs.new)) }
     ensures counts { I.faults inputs.old ≤ I.faults inputs.new }
+    ensures quiet { OnOk result (I.faults inputs.new ≡ I.faults inputs.old) }
     ensures within { IfOk result (λ mode. count + length mode.clocks ≤ most) }
     ensures printable { IfOk result (λ mode. ArePrintableClocks [] mode.clocks) }
 {

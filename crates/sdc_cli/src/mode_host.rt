@@ -3,10 +3,10 @@
 ghost use Rattle.std.specs.Prelude.{◌≡◌, Ok, Err, IfOk};
 ghost use Rattle.sdc_base.specs.Gives.{Meets};
 ghost use Rattle.sdc_base.specs.declared.memory.Stop.TheVariants as stop;
-ghost use Rattle.sdc_model.specs.BuiltIns.{no_text};
-ghost use Rattle.sdc_model.specs.ClockFile.{nothing};
-ghost use Rattle.sdc_model.specs.ClockCommands.{clock_of, clocks_named, groups_of, is_unit, object_names, value_texts};
-ghost use Rattle.sdc_model.specs.ModeHost.{IsAnswered, adds_clock, adds_groups, answer, gives_clocks, keeps_where, mode_host};
+ghost use Rattle.tcl_model.specs.BuiltIns.{no_text};
+ghost use Rattle.mode_model.specs.ClockFile.{nothing};
+ghost use Rattle.mode_model.specs.ClockCommands.{clock_of, clocks_named, groups_of, is_unit, object_names, value_texts};
+ghost use Rattle.mode_model.specs.ModeHost.{IsAnswered, adds_clock, adds_groups, answer, gives_clocks, keeps_where, mode_host};
 
 use crate::clock_groups::groups_of;
 use crate::clock_options::clock_of;
@@ -14,10 +14,11 @@ use crate::clock_queries::clocks_named;
 use crate::mode_so_far::ModeSoFar;
 use crate::object_names::{object_names, value_text};
 use sdc_base::{List, NoMemory, Stop, Text};
-use sdc_model::{Kind, Object, SdcKind, Value};
+use source_types::{Kind, SdcKind};
 use std::alloc::Global;
 use std::mem;
 use tcl_eval::Commands;
+use timing_types::{Object, Value};
 
 /// The host of a mode file, with what its commands made so far.
 #[derive(Drop)]
@@ -27,7 +28,7 @@ pub struct ModeHost {
 }
 
 impl Commands for ModeHost {
-    ghost use Rattle.sdc_model.specs.ClockFile.{SoFar};
+    ghost use Rattle.mode_model.specs.ClockFile.{SoFar};
 
     ghost State = { SoFar };
 
@@ -62,7 +63,7 @@ impl ModeHost {
         self.so_far
     }
 
-    /// Answers a command, by its line, its name and the values of the words behind the name.
+    /// Answers a command, by its line, its name and the values of the words after the name.
     fn answer(&mut self, line: u32, name: &str, words: &[Value]) -> Result<Value, Stop<Kind>>
         ensures { Meets result (λ given. IsAnswered
             (answer self.old.so_far line name.now words.now) self.old.so_far given self.new.so_far) }

@@ -2,16 +2,16 @@
 
 ghost use Rattle.std.specs.Prelude.{◌≡◌, ◌++◌, ◌∷◌, [], false, length, IfOk};
 ghost use Rattle.std.specs.List.{list_all};
-ghost use Rattle.sdc_model.specs.Bytes.{is_name_byte};
-ghost use Rattle.sdc_model.specs.ClockFile.{virtual_clock, clock_mode, is_name, is_taken, nothing};
+ghost use Rattle.text_model.specs.Bytes.{is_name_byte};
+ghost use Rattle.mode_model.specs.ClockFile.{virtual_clock, clock_mode, is_name, is_taken, nothing};
 ghost use Rattle.sdc_cli.specs.Exclusive.{AllBelow};
 
 use crate::group_pairs::pairs_of_groups;
 use crate::named_clocks::NamedClocks;
 use sdc_base::{List, NoMemory, Text};
-use sdc_model::{Clock, Early, Form, Latency, Mode, Wave};
 use std::alloc::Global;
 use std::marker::Model;
+use timing_types::{Clock, Early, Form, Latency, Mode, Wave};
 
 /// The clocks of a mode file so far, and the groups of each command that has some, by the places of their clocks.
 /// Contracts see `SoFar`.
@@ -23,7 +23,7 @@ pub struct ModeSoFar {
 
 impl Model for ModeSoFar {
     ghost use Rattle.std.specs.Prelude.{length};
-    ghost use Rattle.sdc_model.specs.ClockFile.{SoFar};
+    ghost use Rattle.mode_model.specs.ClockFile.{SoFar};
     ghost use Rattle.sdc_cli.specs.Exclusive.{CommandsBelow};
 
     ghost Value = { SoFar };
@@ -84,9 +84,7 @@ impl ModeSoFar {
         ensures { IfOk result (λ mode. mode ≡ clock_mode self) }
     {
         let ModeSoFar { clocks, groups } = self;
-        let Ok(count) = u32::try_from(clocks.as_slice().len()) else {
-            return Err(NoMemory);
-        };
+        let count = clocks.count()?;
         let exclusive = pairs_of_groups(alloc, groups.as_slice(), count)?;
         Ok(Mode {
             clocks: clocks.into_list(),

@@ -1,14 +1,14 @@
 //! The clocks of a mode file so far, each found by its name.
 
-ghost use Rattle.std.specs.Prelude.{◌≡◌, ◌++◌, ◌∷◌, [], false, IfOk};
-ghost use Rattle.sdc_model.specs.ClockFile.{is_taken};
-ghost use Rattle.sdc_model.specs.ClockGroups.{place_from};
+ghost use Rattle.std.specs.Prelude.{◌≡◌, ◌++◌, ◌∷◌, ◌≤◌, ◌^◌, [], false, length, IfOk, OnErr};
+ghost use Rattle.mode_model.specs.ClockFile.{is_taken};
+ghost use Rattle.mode_model.specs.ClockGroups.{place_from};
 
 use sdc_base::{List, NoMemory};
-use sdc_model::Clock;
 use std::alloc::Global;
 use std::collections::BTreeMap;
 use std::marker::Model;
+use timing_types::Clock;
 
 /// The clocks of a mode file so far, in order. Contracts see the list of the clocks.
 #[derive(Drop)]
@@ -54,18 +54,24 @@ impl NamedClocks {
         self.place(name).is_some()
     }
 
+    /// The number of the clocks. One of more than 32 bits counts as want of memory, and no other does.
+    pub fn count(&self) -> Result<u32, NoMemory>
+        ensures count { IfOk result (λ count. count ≡ length self.now) }
+        ensures limit { OnErr result (2 ^ 32 ≤ length self.now) }
+    {
+        u32::try_from(self.clocks.len()).map_err(|_| NoMemory)
+    }
+
     /// These clocks and one more, whose name is new. The one error is want of memory.
     pub fn with(self, alloc: Global, clock: Clock) -> Result<NamedClocks, NoMemory>
         requires { is_taken clock.name self ≡ false }
         ensures { IfOk result (λ more. more ≡ self ++ clock ∷ []) }
     {
+        let place = self.count()?;
         let NamedClocks {
             mut clocks,
             mut places,
         } = self;
-        let Ok(place) = u32::try_from(clocks.len()) else {
-            return Err(NoMemory);
-        };
         let name = String::from_str(alloc, clock.name.as_str())?;
         places.insert(name, place)?;
         clocks.push(clock)?;

@@ -1,12 +1,12 @@
 //! Values of a script as texts: a list of objects counts as the list (Tcl) of their names.
 
 ghost use Rattle.std.specs.Prelude.{◌≡◌, map, IfOk, OnOk, ◌++◌, ◌∷◌, []};
-ghost use Rattle.sdc_model.specs.ClockCommands.{object_name, object_names, value_text};
+ghost use Rattle.mode_model.specs.ClockCommands.{object_name, object_names, value_text};
 
 use sdc_base::{Duplicate, List, NoMemory, Text};
-use sdc_model::{Clock, Object, Value};
 use std::alloc::Global;
 use tcl_words::list_text;
+use timing_types::{Clock, Object, Value};
 
 /// The name of an object, which is that of a clock; an object of another kind has none.
 fn object_name<'a>(clocks: &'a [Clock], object: &Object) -> &'a str

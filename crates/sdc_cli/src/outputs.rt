@@ -2,8 +2,8 @@
 
 ghost use Rattle.std.specs.Prelude.{◌≡◌, ◌≤◌, length};
 ghost use Rattle.sdc_model.specs.Answers.{files_of};
-ghost use Rattle.sdc_model.specs.PlainViews.{clocks_in};
-ghost use Rattle.sdc_model.specs.PrintedFile.{ModesArePrintable};
+ghost use Rattle.merge_model.specs.PlainViews.{clocks_in};
+ghost use Rattle.mode_model.specs.PrintedFile.{ModesArePrintable};
 ghost use Rattle.sdc_cli.specs.Outputs.{Computes, ComputesMerge};
 
 use crate::edges_report::report_text;
@@ -13,9 +13,10 @@ use crate::report_tree::report_bytes;
 use crate::reports::Report;
 use flat_design::empty;
 use sdc_base::{List, MOST_BYTES, Text};
-use sdc_model::{CommandLine, Mode, Output, Status};
+use sdc_model::{CommandLine, Output, Status};
 use sdc_print::print;
 use std::alloc::Global;
+use timing_types::Mode;
 
 /// The budget of a command line that names none.
 const BUDGET: u64 = 2_000_000;

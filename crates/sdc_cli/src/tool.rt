@@ -1,11 +1,11 @@
 //! The run of the tool.
 
-ghost use Rattle.std.specs.Prelude.{◌≡◌, ◌≤◌, length, IfErr, Some, Err};
+ghost use Rattle.std.specs.Prelude.{◌≡◌, ◌≤◌, length, IfErr, OnOk, Some, Err};
 ghost use Rattle.sdc_model.specs.CommandLine.{command_line, words_of};
-ghost use Rattle.sdc_model.specs.Answers.{OnTold, OnModes, IsLineFault, UsageFits, CauseFits, TooLargeFits, ReadFaultFits, WriteFaultFits, LeavesReading, LeavesWritten, made_by, made_file, files_of};
+ghost use Rattle.sdc_model.specs.Answers.{OnContents, OnModes, IsLineFault, UsageFits, CauseFits, TooLargeFits, ReadFaultFits, WriteFaultFits, QuietFits, LeavesReading, LeavesWritten, made_by, made_file, files_of};
 ghost use Rattle.sdc_model.specs.FaultLine.{LeavesFaults, with_faults};
 ghost use Rattle.sdc_cli.specs.Announced.{HasCauses, NamesWriteFault, RoseTwice};
-ghost use Rattle.sdc_cli.specs.Steps.{WritesOutput, EndsWriting, WritesBoth};
+ghost use Rattle.sdc_cli.specs.Steps.{WritesOutput, EndsWriting, WritesBoth, QuietWhenDone};
 ghost use Rattle.sdc_base.specs.Counting.{Rose};
 ghost use Rattle.sdc_cli.specs.Outputs.{IsOutputOf, IsTooLargeOf, ComputesLine, StopsComputing};
 
@@ -17,7 +17,7 @@ use sdc_base::{Channel, Inputs, Outputs, Refusal, Text, write_all};
 use sdc_model::{CommandLine, Output, Status};
 use std::alloc::Global;
 
-/// Runs the tool on the words behind the program's name. All is computed before the first call on the
+/// Runs the tool on the words after the program's name. All is computed before the first call on the
 /// outputs. What stopped it is named by one line on `Channel::Faults`.
 ///
 /// The answers are this project's own: `Usage` exactly where the words are no command line, `Source` with the
@@ -36,9 +36,9 @@ pub fn run<I: Inputs, O: Outputs>(
 
     // Done and WriteFault only where there is an output; Source and TooLarge only for what they name.
     ensures cause { let line = command_line (words_of words.now) in
-        CauseFits (λ output. OnModes (λ l modes. IsOutputOf l modes output) (I.told inputs.old) line)
-        (IsLineFault (I.told inputs.old) line)
-        (λ bytes. OnModes (λ l modes. IsTooLargeOf l modes bytes) (I.told inputs.old) line) result }
+        CauseFits (λ output. OnModes (λ l modes. IsOutputOf l modes output) (I.contents inputs.old) line)
+        (IsLineFault (I.contents inputs.old) line)
+        (λ bytes. OnModes (λ l modes. IsTooLargeOf l modes bytes) (I.contents inputs.old) line) result }
 
     // TooLarge only of a merge, and of more bytes than a file may have.
     ensures too_large { TooLargeFits (command_line (words_of words.now)) result }
@@ -48,26 +48,30 @@ pub fn run<I: Inputs, O: Outputs>(
         (I.faults inputs.old) (I.faults inputs.new) result }
     ensures write_fault { WriteFaultFits (O.faults outputs.old) (O.faults outputs.new) result }
 
-    // What stands in the inputs and in the outputs after it, the line that names what stopped it apart.
-    ensures reads { OnTold (LeavesReading (command_line (words_of words.now)) result)
-        (I.told inputs.old) (I.told inputs.new) }
+    // Done only where neither count rose: no failed read was taken as an end, no failed write as a whole one.
+    ensures quiet { QuietFits (I.faults inputs.old) (I.faults inputs.new)
+        (O.faults outputs.old) (O.faults outputs.new) result }
+
+    // What stands in the inputs and in the outputs after it, except for the line that names what stopped it.
+    ensures reads { OnContents (LeavesReading (command_line (words_of words.now)) result)
+        (I.contents inputs.old) (I.contents inputs.new) }
     ensures writes { let line = command_line (words_of words.now) in
-        OnTold (λ before after. LeavesWritten (made_by line)
-        (λ output. OnModes (λ l modes. IsOutputOf l modes output) (I.told inputs.old) line) result
+        OnContents (λ before after. LeavesWritten (made_by line)
+        (λ output. OnModes (λ l modes. IsOutputOf l modes output) (I.contents inputs.old) line) result
         before (with_faults before.faults after))
-        (O.told outputs.old) (O.told outputs.new) }
+        (O.contents outputs.old) (O.contents outputs.new) }
 
     // The line that names what stopped it, whole, or a front of it where a write failed; after want of memory a
     // front of one. That of a write fault is whole too, unless a second write failed.
     ensures names { let line = command_line (words_of words.now) in
-        OnTold (λ before after. LeavesFaults line
-        (HasCauses (I.told inputs.old) (I.faults inputs.old) (I.faults inputs.new)
+        OnContents (λ before after. LeavesFaults line
+        (HasCauses (I.contents inputs.old) (I.faults inputs.old) (I.faults inputs.new)
         (O.faults outputs.old) (O.faults outputs.new) line)
         (Rose (O.faults outputs.old) (O.faults outputs.new)) result before.faults after.faults)
-        (O.told outputs.old) (O.told outputs.new) }
-    ensures write_fault_line { OnTold (NamesWriteFault
+        (O.contents outputs.old) (O.contents outputs.new) }
+    ensures write_fault_line { OnContents (NamesWriteFault
         (RoseTwice (O.faults outputs.old) (O.faults outputs.new)) result)
-        (O.told outputs.old) (O.told outputs.new) }
+        (O.contents outputs.old) (O.contents outputs.new) }
 {
     match command_line(alloc, words) {
         Ok(Some(line)) => run_line(alloc, &line, inputs, outputs),
@@ -86,27 +90,29 @@ fn run_line<I: Inputs, O: Outputs>(
 ) -> Status
     requires { length (files_of line.now) ≤ 16 }
     ensures usage { UsageFits (Some line.now) result }
-    ensures cause { CauseFits (λ output. OnModes (λ l modes. IsOutputOf l modes output) (I.told inputs.old) (Some line.now))
-        (IsLineFault (I.told inputs.old) (Some line.now))
-        (λ bytes. OnModes (λ l modes. IsTooLargeOf l modes bytes) (I.told inputs.old) (Some line.now)) result }
+    ensures cause { CauseFits (λ output. OnModes (λ l modes. IsOutputOf l modes output) (I.contents inputs.old) (Some line.now))
+        (IsLineFault (I.contents inputs.old) (Some line.now))
+        (λ bytes. OnModes (λ l modes. IsTooLargeOf l modes bytes) (I.contents inputs.old) (Some line.now)) result }
     ensures too_large { TooLargeFits (Some line.now) result }
     ensures read_fault { ReadFaultFits (Some line.now)
         (I.faults inputs.old) (I.faults inputs.new) result }
     ensures write_fault { WriteFaultFits (O.faults outputs.old) (O.faults outputs.new) result }
-    ensures reads { OnTold (LeavesReading (Some line.now) result)
-        (I.told inputs.old) (I.told inputs.new) }
-    ensures writes { OnTold (λ before after. LeavesWritten (made_file line.now)
-        (λ output. OnModes (λ l modes. IsOutputOf l modes output) (I.told inputs.old) (Some line.now)) result
+    ensures quiet { QuietFits (I.faults inputs.old) (I.faults inputs.new)
+        (O.faults outputs.old) (O.faults outputs.new) result }
+    ensures reads { OnContents (LeavesReading (Some line.now) result)
+        (I.contents inputs.old) (I.contents inputs.new) }
+    ensures writes { OnContents (λ before after. LeavesWritten (made_file line.now)
+        (λ output. OnModes (λ l modes. IsOutputOf l modes output) (I.contents inputs.old) (Some line.now)) result
         before (with_faults before.faults after))
-        (O.told outputs.old) (O.told outputs.new) }
-    ensures names { OnTold (λ before after. LeavesFaults (Some line.now)
-        (HasCauses (I.told inputs.old) (I.faults inputs.old) (I.faults inputs.new)
+        (O.contents outputs.old) (O.contents outputs.new) }
+    ensures names { OnContents (λ before after. LeavesFaults (Some line.now)
+        (HasCauses (I.contents inputs.old) (I.faults inputs.old) (I.faults inputs.new)
         (O.faults outputs.old) (O.faults outputs.new) (Some line.now))
         (Rose (O.faults outputs.old) (O.faults outputs.new)) result before.faults after.faults)
-        (O.told outputs.old) (O.told outputs.new) }
-    ensures write_fault_line { OnTold (NamesWriteFault
+        (O.contents outputs.old) (O.contents outputs.new) }
+    ensures write_fault_line { OnContents (NamesWriteFault
         (RoseTwice (O.faults outputs.old) (O.faults outputs.new)) result)
-        (O.told outputs.old) (O.told outputs.new) }
+        (O.contents outputs.old) (O.contents outputs.new) }
 {
     let status = write_line_output(alloc, line, inputs, outputs);
     announce(alloc, Some(line), status, outputs)
@@ -121,19 +127,21 @@ fn write_line_output<I: Inputs, O: Outputs>(
 ) -> Status
     requires { length (files_of line.now) ≤ 16 }
     ensures usage { UsageFits (Some line.now) result }
-    ensures cause { CauseFits (λ output. OnModes (λ l modes. IsOutputOf l modes output) (I.told inputs.old) (Some line.now))
-        (IsLineFault (I.told inputs.old) (Some line.now))
-        (λ bytes. OnModes (λ l modes. IsTooLargeOf l modes bytes) (I.told inputs.old) (Some line.now)) result }
+    ensures cause { CauseFits (λ output. OnModes (λ l modes. IsOutputOf l modes output) (I.contents inputs.old) (Some line.now))
+        (IsLineFault (I.contents inputs.old) (Some line.now))
+        (λ bytes. OnModes (λ l modes. IsTooLargeOf l modes bytes) (I.contents inputs.old) (Some line.now)) result }
     ensures too_large { TooLargeFits (Some line.now) result }
     ensures read_fault { ReadFaultFits (Some line.now)
         (I.faults inputs.old) (I.faults inputs.new) result }
     ensures write_fault { WriteFaultFits (O.faults outputs.old) (O.faults outputs.new) result }
     ensures counts { O.faults outputs.old ≤ O.faults outputs.new }
-    ensures reads { OnTold (LeavesReading (Some line.now) result)
-        (I.told inputs.old) (I.told inputs.new) }
-    ensures writes { OnTold (LeavesWritten (made_file line.now)
-        (λ output. OnModes (λ l modes. IsOutputOf l modes output) (I.told inputs.old) (Some line.now)) result)
-        (O.told outputs.old) (O.told outputs.new) }
+    ensures quiet { QuietFits (I.faults inputs.old) (I.faults inputs.new)
+        (O.faults outputs.old) (O.faults outputs.new) result }
+    ensures reads { OnContents (LeavesReading (Some line.now) result)
+        (I.contents inputs.old) (I.contents inputs.new) }
+    ensures writes { OnContents (LeavesWritten (made_file line.now)
+        (λ output. OnModes (λ l modes. IsOutputOf l modes output) (I.contents inputs.old) (Some line.now)) result)
+        (O.contents outputs.old) (O.contents outputs.new) }
 {
     match line_output(alloc, line, inputs) {
         Ok(output) => write_output(line, &output, outputs),
@@ -148,9 +156,10 @@ fn line_output<I: Inputs>(
     inputs: &mut I,
 ) -> Result<Output, Status>
     requires { length (files_of line.now) ≤ 16 }
-    ensures told { OnTold (ComputesLine line.now result) (I.told inputs.old) (I.told inputs.new) }
+    ensures contents { OnContents (ComputesLine line.now result) (I.contents inputs.old) (I.contents inputs.new) }
     ensures stops { IfErr result
         (StopsComputing line.now (I.faults inputs.old) (I.faults inputs.new)) }
+    ensures quiet { OnOk result (I.faults inputs.new ≡ I.faults inputs.old) }
 {
     let modes = read_modes(alloc, line, inputs)?;
     output_of(alloc, line, &modes)
@@ -158,10 +167,11 @@ fn line_output<I: Inputs>(
 
 /// Writes the output of a command line, the merged file before the report.
 fn write_output<O: Outputs>(line: &CommandLine, output: &Output, outputs: &mut O) -> Status
-    ensures writes { OnTold (WritesOutput (made_file line.now) output.now result)
-        (O.told outputs.old) (O.told outputs.new) }
+    ensures writes { OnContents (WritesOutput (made_file line.now) output.now result)
+        (O.contents outputs.old) (O.contents outputs.new) }
     ensures write_fault { WriteFaultFits (O.faults outputs.old) (O.faults outputs.new) result }
     ensures counts { O.faults outputs.old ≤ O.faults outputs.new }
+    ensures quiet { QuietWhenDone (O.faults outputs.old) (O.faults outputs.new) result }
     ensures ends { EndsWriting result }
 {
     let written = match line {
@@ -177,9 +187,10 @@ fn write_output<O: Outputs>(line: &CommandLine, output: &Output, outputs: &mut O
 
 /// Makes the merged file and writes it whole, then the report.
 fn write_both<O: Outputs>(out: &Text, output: &Output, outputs: &mut O) -> Result<(), Refusal>
-    ensures writes { OnTold (WritesBoth out.now output.now result)
-        (O.told outputs.old) (O.told outputs.new) }
+    ensures writes { OnContents (WritesBoth out.now output.now result)
+        (O.contents outputs.old) (O.contents outputs.new) }
     ensures counts { O.faults outputs.old ≤ O.faults outputs.new }
+    ensures quiet { OnOk result (O.faults outputs.new ≡ O.faults outputs.old) }
     ensures failed { result ≡ Err Refusal.Failed
         → Rose (O.faults outputs.old) (O.faults outputs.new) }
 {

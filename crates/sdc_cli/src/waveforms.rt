@@ -3,14 +3,15 @@
 
 ghost use Rattle.std.specs.Prelude.{◌≡◌, ◌≤◌, ◌<◌, ◌+◌, ◌^◌, IfSome, IfOk};
 ghost use Rattle.std.specs.Option.{option_copied};
-ghost use Rattle.sdc_model.specs.ClockFile.{wave_given};
-ghost use Rattle.sdc_model.specs.Waveform.{plain_wave, period_of, time_from, limited_time, wave_within, wave_of, waveform_of, moved_down};
+ghost use Rattle.mode_model.specs.ClockFile.{wave_given};
+ghost use Rattle.constraint_model.specs.ClockWaves.{plain_wave, wave_within, moved_down};
+ghost use Rattle.mode_model.specs.Waveform.{period_of, time_from, limited_time, wave_of, waveform_of};
 ghost use Rattle.sdc_cli.specs.Waves.{IsPeriod};
 
 use crate::items::items_of;
 use sdc_base::{Fixed, NoMemory, Text};
-use sdc_model::Wave;
 use std::alloc::Global;
+use timing_types::Wave;
 
 /// Femtoseconds in a nanosecond, the unit of a mode file and of the report of `edges`.
 pub(crate) const NANOSECOND: i64 = 1_000_000;
@@ -111,7 +112,7 @@ fn wave_of(period: u64, times: &[Text]) -> Option<Wave>
     wave_within(period, rise, fall)
 }
 
-/// The waveform of these edges, where the fall is behind the rise and before the next rise: both edges moved
+/// The waveform of these edges, where the fall is after the rise and before the next rise: both edges moved
 /// down by whole periods until the rise is below the period.
 fn wave_within(period: u64, rise: u64, fall: u64) -> Option<Wave>
     requires period { IsPeriod period }
@@ -129,7 +130,7 @@ fn wave_within(period: u64, rise: u64, fall: u64) -> Option<Wave>
 fn moved_down(period: u64, rise: u64, fall: u64) -> Wave
     requires period { IsPeriod period }
     requires rise { rise ≤ 10 ^ 12 }
-    requires behind { rise < fall }
+    requires after { rise < fall }
     requires before_next { fall < rise + period }
     ensures { result ≡ moved_down period rise fall }
 {

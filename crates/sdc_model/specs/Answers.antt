@@ -8,11 +8,11 @@ use Rattle.sdc_base.specs.declared.whole.TheConstants.{MOST_BYTES}
 use Rattle.sdc_base.specs.Counting.{Rose}
 use Rattle.sdc_base.specs.Files.{Reading, bytes_of}
 use Rattle.sdc_base.specs.Channels.{Written, appended, AppendsFront}
-use Rattle.source_types.specs.declared.answers.Status.{Status}
-use Rattle.source_types.specs.declared.answers.Status.TheVariants as status
-use Rattle.source_types.specs.declared.command_lines.CommandLine.{CommandLine}
-use Rattle.source_types.specs.declared.command_lines.CommandLine.TheVariants.{Edges, Merge}
-use Rattle.source_types.specs.declared.command_lines.Output.{Output}
+use Rattle.sdc_model.specs.declared.answers.Status.{Status}
+use Rattle.sdc_model.specs.declared.answers.Status.TheVariants as status
+use Rattle.sdc_model.specs.declared.command_lines.CommandLine.{CommandLine}
+use Rattle.sdc_model.specs.declared.command_lines.CommandLine.TheVariants.{Edges, Merge}
+use Rattle.sdc_model.specs.declared.command_lines.Output.{Output}
 use Rattle.source_types.specs.declared.kinds.Fault.{Fault}
 use Rattle.timing_types.specs.declared.modes.Mode.{Mode}
 use Rattle.sdc_model.specs.ModeFiles.{SayModes, SaysFile}
@@ -47,13 +47,13 @@ LineModes line files outcome = SayModes (most_clocks line) files (first_place li
 
 -- There is a command line, and where the files are told they say modes, and the fact holds of the line and these modes.
 abbrev pub OnModes : (CommandLine → List Mode → Type 0) → Option Reading → Option CommandLine → Type 0
-OnModes Fact told None = ⊥
+OnModes Fact contents None = ⊥
 OnModes Fact None (Some line) = Unit {0}
 OnModes Fact (Some reading) (Some line) = (modes : List Mode) × LineModes line reading.files (Ok modes) × Fact line modes
 
 -- the first fault of the files of a command line: where they are not told, still one of a file of it
 abbrev pub IsLineFault : Option Reading → Option CommandLine → Fault → Type 0
-IsLineFault told None fault = ⊥
+IsLineFault contents None fault = ⊥
 IsLineFault None (Some line) fault = IsPlaceOf line fault.file
 IsLineFault (Some reading) (Some line) fault = LineModes line reading.files (Err fault)
 
@@ -65,12 +65,17 @@ UsageFits None _ = ⊥
 UsageFits (Some line) status.Usage = ⊥
 UsageFits (Some line) _ = Unit {0}
 
--- Done and WriteFault only where there is an output; Source only for the first fault, TooLarge only for this length
+-- Done and WriteFault only where there is an output; Source only for the first fault, TooLarge only for this length.
+-- The command lines that stand list nothing and have no design: none answers Findings, Loop, Conflict or Budget.
 abbrev pub CauseFits : (Output → Type 0) → (Fault → Type 0) → (ℕ → Type 0) → Status → Type 0
 CauseFits IsOutput IsFault IsTooLarge status.Done = (output : Output) × IsOutput output
 CauseFits IsOutput IsFault IsTooLarge status.WriteFault = (output : Output) × IsOutput output
 CauseFits IsOutput IsFault IsTooLarge (status.Source fault) = IsFault fault
 CauseFits IsOutput IsFault IsTooLarge (status.TooLarge bytes) = IsTooLarge bytes
+CauseFits IsOutput IsFault IsTooLarge status.Findings = ⊥
+CauseFits IsOutput IsFault IsTooLarge (status.Loop cycle) = ⊥
+CauseFits IsOutput IsFault IsTooLarge (status.Conflict pin source passing) = ⊥
+CauseFits IsOutput IsFault IsTooLarge (status.Budget classes) = ⊥
 CauseFits IsOutput IsFault IsTooLarge _ = Unit {0}
 
 -- TooLarge only where a file is made, and only with more bytes than one may have
@@ -90,6 +95,12 @@ abbrev pub WriteFaultFits : ℕ → ℕ → Status → Type 0
 WriteFaultFits before after status.WriteFault = Rose before after
 WriteFaultFits before after _ = Unit {0}
 
+-- Done and Findings only where no count rose: no read and no write failed
+abbrev pub QuietFits : ℕ → ℕ → ℕ → ℕ → Status → Type 0
+QuietFits reading read writing written status.Done = (read ≡ reading) × (written ≡ writing)
+QuietFits reading read writing written status.Findings = (read ≡ reading) × (written ≡ writing)
+QuietFits reading read writing written _ = Unit {0}
+
 -- The read of the file at the failed place failed: the files before it say modes, and it is begun, or else what was
 -- begun before it. The first of the names has this place, so many clocks stand before it, and `begun` is what was
 -- begun.
@@ -101,11 +112,11 @@ FailsReading most files place count begun (name ∷ names) failed after =
     × FailsReading most files (suc place) (count + length mode.clocks) (Some name) names failed after)
 
 -- a fact about what an object tells before and after a call, where it tells it; whether it does never changes
-abbrev pub OnTold : {Told : Type 0} → (Told → Told → Type 0) → Option Told → Option Told → Type 0
-OnTold Fact None None = Unit {0}
-OnTold Fact None (Some after) = ⊥
-OnTold Fact (Some before) None = ⊥
-OnTold Fact (Some before) (Some after) = Fact before after
+abbrev pub OnContents : {Contents : Type 0} → (Contents → Contents → Type 0) → Option Contents → Option Contents → Type 0
+OnContents Fact None None = Unit {0}
+OnContents Fact None (Some after) = ⊥
+OnContents Fact (Some before) None = ⊥
+OnContents Fact (Some before) (Some after) = Fact before after
 
 -- what a run leaves in the inputs
 abbrev pub LeavesReading : Option CommandLine → Status → Reading → Reading → Type 0
@@ -115,23 +126,24 @@ LeavesReading (Some line) (status.ReadFault place) before after =
     × FailsReading (most_clocks line) before.files (first_place line) 0 before.begun (files_of line) place after.begun
 LeavesReading (Some line) _ before after = after.files ≡ before.files
 
--- the whole output was written: to Merged, empty since its file was made, and behind what Report had
+-- the whole output was written: to Merged, empty since its file was made, and after what Report had
 abbrev pub WritesWhole : Option (List ℕ) → Output → Written → Written → Type 0
 WritesWhole None output before after = after ≡ appended Report output.report before
 WritesWhole (Some name) output before after =
     after ≡ record before { merged = output.merged; name = name; report = before.report ++ output.report }
 
--- a front of it was written, and no byte of the report before the merged file is whole
+-- a front of it was written, and not all of it, and no byte of the report before the merged file is whole
 abbrev pub WritesFront : Option (List ℕ) → Output → Written → Written → Type 0
 WritesFront None output before after = AppendsFront Report output.report before after
 WritesFront (Some name) output before after =
     (merged : List ℕ) × (merged_rest : List ℕ) × (report : List ℕ) × (report_rest : List ℕ)
-    × (output.merged ≡ merged ++ merged_rest) × (output.report ≡ report ++ report_rest) × ((merged_rest ≡ []) ⊎ (report ≡ []))
+    × (output.merged ≡ merged ++ merged_rest) × (output.report ≡ report ++ report_rest) × ((merged_rest ≡ []) ⊎ (report ≡ [])) × ((0 < length merged_rest) ⊎ (0 < length report_rest))
     × (after ≡ record before { merged = merged; name = name; report = before.report ++ report })
 
 -- what a run leaves in the outputs, by the file that it makes and its output
 abbrev pub LeavesWritten : Option (List ℕ) → (Output → Type 0) → Status → Written → Written → Type 0
 LeavesWritten made IsOutput status.Done before after = (output : Output) × IsOutput output × WritesWhole made output before after
+LeavesWritten made IsOutput status.Findings before after = (output : Output) × IsOutput output × WritesWhole made output before after
 LeavesWritten made IsOutput status.WriteFault before after =
     (output : Output) × IsOutput output × ((after ≡ before) ⊎ WritesFront made output before after)
 LeavesWritten made IsOutput status.NoMemory before after =

@@ -1,5 +1,5 @@
 -- The words of a command line. This project's own.
--- The first word names the command. Behind it `--` ends the options, once; before that a word of two or more bytes
+-- The first word names the command. After it `--` ends the options, once; before that a word of two or more bytes
 -- that begins with `-` is no argument. `-` alone and the empty word are arguments. `merge` has one option. The lines
 -- that stand are `edges`, and `merge` over the empty design (`- - -`): every other line is wrong.
 use Rattle.std.specs.Prelude.{◌==◌, ◌&&◌, ℕ, Bool, false, List, [], ◌∷◌, length, drop, map, string_bytes, String, Option, Some, None, codes, nat_eq, nat_lt, nat_le, if◌then◌else◌}
@@ -8,9 +8,9 @@ use Rattle.std.specs.List.{starts_with}
 use Rattle.std.specs.Option.{option_and_then}
 use Rattle.std.specs.Str.{all_ascii_digits}
 use Rattle.std.specs.Str.Parse.{digits_value, without_leading_plus}
-use Rattle.source_types.specs.declared.command_lines.CommandLine.{CommandLine}
-use Rattle.source_types.specs.declared.command_lines.CommandLine.TheVariants.{Edges, Merge}
-use Rattle.sdc_model.specs.Words.{same_text}
+use Rattle.sdc_model.specs.declared.command_lines.CommandLine.{CommandLine}
+use Rattle.sdc_model.specs.declared.command_lines.CommandLine.TheVariants.{Edges, Merge}
+use Rattle.text_model.specs.Words.{same_text}
 
 -- the words as lists of bytes
 abbrev pub words_of : List (String Global) → List (List ℕ)
@@ -29,7 +29,7 @@ most_files = 16
 abbrev pub are_some : List (List ℕ) → Bool
 are_some files = nat_le 1 (length files) && nat_le (length files) most_files
 
--- the arguments among words behind the first one, where no word is an option
+-- the arguments among words after the first one, where no word is an option
 abbrev pub arguments_of : List (List ℕ) → Option (List (List ℕ))
 arguments_of [] = Some []
 arguments_of (word ∷ words) =
@@ -44,23 +44,23 @@ is_budget_text digits =
 abbrev pub is_budget : List ℕ → Bool
 is_budget text = is_budget_text (without_leading_plus text)
 
--- the arguments behind `--tags`: its number, and words without a further option
-abbrev pub behind_number : List (List ℕ) → Option (List (List ℕ))
-behind_number [] = None
-behind_number (number ∷ words) = if is_budget number then arguments_of words else None
+-- the arguments after `--tags`: its number, and words without a further option
+abbrev pub after_number : List (List ℕ) → Option (List (List ℕ))
+after_number [] = None
+after_number (number ∷ words) = if is_budget number then arguments_of words else None
 
--- the arguments behind a word that is an option: `--`, `--tags` or `--tags=N`
-abbrev pub behind_option : List ℕ → List (List ℕ) → Option (List (List ℕ))
-behind_option word words =
+-- the arguments after a word that is an option: `--`, `--tags` or `--tags=N`
+abbrev pub after_option : List ℕ → List (List ℕ) → Option (List (List ℕ))
+after_option word words =
     if same_text word (codes "--") then Some words
-    else (if same_text word (codes "--tags") then behind_number words
+    else (if same_text word (codes "--tags") then after_number words
     else (if starts_with nat_eq word (codes "--tags=") && is_budget (drop 7 word) then arguments_of words else None))
 
--- the arguments among words behind `merge`, where the option `--tags` may stand once
+-- the arguments among words after `merge`, where the option `--tags` may stand once
 abbrev pub merge_arguments : List (List ℕ) → Option (List (List ℕ))
 merge_arguments [] = Some []
 merge_arguments (word ∷ words) =
-    if is_option word then behind_option word words
+    if is_option word then after_option word words
     else option_and_then (λ others. Some (word ∷ others)) (merge_arguments words)
 
 -- `edges` of these arguments: its files

@@ -6,12 +6,12 @@ use Rattle.sdc_base.specs.Time.{time_text_of}
 use Rattle.timing_types.specs.declared.clocks.Clock.{Clock}
 use Rattle.timing_types.specs.declared.clocks.Form.{Form}
 use Rattle.timing_types.specs.declared.clocks.Form.TheVariants.{Primary, Generated}
-use Rattle.source_types.specs.declared.pins.Edge.{Edge}
-use Rattle.source_types.specs.declared.pins.Edge.TheVariants.{Rise, Fall}
+use Rattle.pin_types.specs.declared.pins.Edge.{Edge}
+use Rattle.pin_types.specs.declared.pins.Edge.TheVariants.{Rise, Fall}
 use Rattle.timing_types.specs.declared.modes.Mode.{Mode}
 use Rattle.timing_types.specs.declared.edge_times.Relation.{Relation}
 use Rattle.timing_types.specs.declared.edge_times.TimedEdge.{TimedEdge}
-use Rattle.sdc_model.specs.Relation.{IsEdgeOf, IsRelation}
+use Rattle.timing_model.specs.Relation.{IsEdgeOf, IsRelation}
 
 -- the two edges of a clock with a waveform of its own
 abbrev pub edges_of : List ℕ → Form → List TimedEdge
@@ -86,7 +86,7 @@ AreLines file (launch ∷ launches) captures text =
     (lines : List ℕ) × (rest : List ℕ) × AreLinesFrom file launch captures lines × (text ≡ lines ++ rest)
     × AreLines file launches captures rest
 
--- a text with this fact stands behind the old one
+-- a text with this fact stands after the old one
 abbrev pub Appends : (List ℕ → Type 0) → List ℕ → List ℕ → Type 0
 Appends IsText old new = (text : List ℕ) × IsText text × (new ≡ old ++ text)
 
@@ -94,7 +94,7 @@ Appends IsText old new = (text : List ℕ) × IsText text × (new ≡ old ++ tex
 abbrev pub IsReport : List ℕ → List Clock → List ℕ → Type 0
 IsReport file clocks text = AreLines file (clock_edges clocks) (clock_edges clocks) text
 
--- the reports of files and their modes, one behind the other
+-- the reports of files and their modes, one after the other
 abbrev pub AreReports : List (List ℕ) → List Mode → List ℕ → Type 0
 AreReports [] [] text = text ≡ []
 AreReports (file ∷ files) (mode ∷ modes) text =

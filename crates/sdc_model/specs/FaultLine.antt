@@ -2,18 +2,18 @@
 -- A fault of a file is named by the file, the line and the name of its kind; work that is done has no line.
 -- It reads: the words of a command line in their places, the names of the kinds, the line of an answer, and what a run
 -- leaves.
-use Rattle.std.specs.Prelude.{◌≡◌, ◌⊎◌, ◌++◌, ℕ, List, [], ◌∷◌, Option, Some, None, codes, slice_get}
+use Rattle.std.specs.Prelude.{◌≡◌, ◌<◌, ◌⊎◌, ◌++◌, ℕ, List, [], ◌∷◌, length, Option, Some, None, codes, slice_get}
 use Rattle.std.specs.Fmt.{decimal}
 use Rattle.std.specs.Option.{unwrap_or}
 use Rattle.sdc_base.specs.Channels.{Written}
-use Rattle.source_types.specs.declared.answers.Status.{Status}
-use Rattle.source_types.specs.declared.answers.Status.TheVariants as status
-use Rattle.source_types.specs.declared.command_lines.CommandLine.{CommandLine}
-use Rattle.source_types.specs.declared.command_lines.CommandLine.TheVariants.{Edges, Merge}
+use Rattle.sdc_model.specs.declared.answers.Status.{Status}
+use Rattle.sdc_model.specs.declared.answers.Status.TheVariants as status
+use Rattle.sdc_model.specs.declared.command_lines.CommandLine.{CommandLine}
+use Rattle.sdc_model.specs.declared.command_lines.CommandLine.TheVariants.{Edges, Merge}
 use Rattle.source_types.specs.declared.fault_kinds.DesignKind.{DesignKind}
 use Rattle.source_types.specs.declared.fault_kinds.DesignKind.TheVariants as design
-use Rattle.source_types.specs.declared.fault_kinds.ModeKind.{ModeKind}
-use Rattle.source_types.specs.declared.fault_kinds.ModeKind.TheVariants as mode
+use Rattle.pin_types.specs.declared.mode_faults.ModeKind.{ModeKind}
+use Rattle.pin_types.specs.declared.mode_faults.ModeKind.TheVariants as mode
 use Rattle.source_types.specs.declared.fault_kinds.VerilogKind.{VerilogKind}
 use Rattle.source_types.specs.declared.fault_kinds.VerilogKind.TheVariants as verilog
 use Rattle.source_types.specs.declared.kinds.Fault.{Fault}
@@ -125,11 +125,21 @@ unread_line file = codes "cannot read " ++ (file ++ codes "\n")
 abbrev pub too_large_line : ℕ → List ℕ
 too_large_line bytes = codes "merged file would have " ++ (decimal bytes ++ codes " bytes\n")
 
--- the line of an answer over a command line, or over words that are none
+-- `budget of N classes exceeded`
+abbrev pub budget_line : ℕ → List ℕ
+budget_line classes = codes "budget of " ++ (decimal classes ++ codes " classes exceeded\n")
+
+-- The line of an answer over a command line, or over words that are none; none where the work is done. Those of Loop and
+-- Conflict name pins of a design. No command line that stands has one, none answers them (`CauseFits`), and nothing is
+-- written for them.
 abbrev pub fault_line : Option CommandLine → Status → List ℕ
 fault_line line status.Done = []
+fault_line line status.Findings = []
 fault_line line status.Usage = codes "wrong command line\n"
 fault_line line (status.Source fault) = source_line (word_of line fault.file) fault
+fault_line line (status.Loop cycle) = []
+fault_line line (status.Conflict pin source passing) = []
+fault_line line (status.Budget classes) = budget_line classes
 fault_line line (status.ReadFault place) = unread_line (word_of line place)
 fault_line line status.WriteFault = codes "cannot write\n"
 fault_line line status.NoMemory = codes "out of memory\n"
@@ -137,18 +147,25 @@ fault_line line (status.TooLarge bytes) = too_large_line bytes
 
 -- ---- what a run leaves in the channel
 
--- a front of a line, which may be all or nothing of it, stands behind the old bytes
+-- a front of a line, which may be all or nothing of it, stands after the old bytes
 abbrev pub HasFront : List ℕ → List ℕ → List ℕ → Type 0
 HasFront text before after = (front : List ℕ) × (rest : List ℕ) × (text ≡ front ++ rest) × (after ≡ before ++ front)
 
--- The whole line of the answer stands behind what was there, or a front of it where `Failed` says that a write failed.
--- After WriteFault a front of its line stands there whatever `Failed` says, and after Done nothing. After want of
--- memory it is a front of the line of an answer that stood: memory may have run out while it was made or written.
+-- a front of a line, which may be nothing of it and is not all of it
+abbrev pub HasProperFront : List ℕ → List ℕ → List ℕ → Type 0
+HasProperFront text before after = (front : List ℕ) × (rest : List ℕ) × (text ≡ front ++ rest) × (0 < length rest) × (after ≡ before ++ front)
+
+-- The whole line of the answer stands after what was there, or a front of it where `Failed` says that a write failed.
+-- After WriteFault a front of its line stands there whatever `Failed` says, and after Done and Findings nothing. After want of
+-- memory it is a front of its own line; or of the line of an answer that stood, and not all of it:
+-- memory may have run out while it was made or written.
 abbrev pub LeavesFaults : Option CommandLine → (Status → Type 0) → Type 0 → Status → List ℕ → List ℕ → Type 0
 LeavesFaults line Stood Failed status.Done before after = after ≡ before
+LeavesFaults line Stood Failed status.Findings before after = after ≡ before
 LeavesFaults line Stood Failed status.WriteFault before after = HasFront (fault_line line status.WriteFault) before after
 LeavesFaults line Stood Failed status.NoMemory before after =
-    (answer : Status) × Stood answer × HasFront (fault_line line answer) before after
+    HasFront (fault_line line status.NoMemory) before after
+    ⊎ ((answer : Status) × Stood answer × HasProperFront (fault_line line answer) before after)
 LeavesFaults line Stood Failed answer before after =
     (after ≡ before ++ fault_line line answer) ⊎ (Failed × HasFront (fault_line line answer) before after)
 

@@ -12,8 +12,8 @@ use Rattle.source_types.specs.declared.kinds.Kind.TheVariants.{Sdc, TooLong}
 use Rattle.source_types.specs.declared.kinds.SdcKind.TheVariants.{TooMany}
 use Rattle.source_types.specs.declared.kinds.Fault.{Fault}
 use Rattle.timing_types.specs.declared.modes.Mode.{Mode}
-use Rattle.sdc_model.specs.ModeMeaning.{Said, SaysMode}
-use Rattle.sdc_model.specs.RunLimits.{line_beyond}
+use Rattle.mode_model.specs.ModeMeaning.{Said, SaysMode}
+use Rattle.constraint_model.specs.RunLimits.{line_beyond}
 
 -- a mode, or that it has a clock beyond the most, on this line
 abbrev pub or_too_many : Mode → Option ℕ → Said
@@ -40,12 +40,12 @@ with_first mode (Err fault) = Err fault
 abbrev pub fault_of : ℕ → At Kind → Fault
 fault_of place fault = record { file = place; line = fault.line; kind = fault.kind }
 
--- a fault of the file at this place is the outcome; behind a mode the other files decide
+-- a fault of the file at this place is the outcome; after a mode the other files decide
 abbrev pub Continues : ℕ → Said → (Mode → Result (List Mode) Fault → Type 0) → Result (List Mode) Fault → Type 0
 Continues place (Err fault) Others outcome = outcome ≡ Err (fault_of place fault)
 Continues place (Ok mode) Others outcome = (others : Result (List Mode) Fault) × Others mode others × (outcome ≡ with_first mode others)
 
--- what the files of these names say, the first of them at a place of the words, behind so many clocks
+-- what the files of these names say, the first of them at a place of the words, after so many clocks
 abbrev pub SayModes : ℕ → List NamedBytes → ℕ → ℕ → List (List ℕ) → Result (List Mode) Fault → Type 0
 SayModes most files place count [] outcome = outcome ≡ Ok []
 SayModes most files place count (name ∷ names) outcome =

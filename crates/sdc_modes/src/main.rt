@@ -2,12 +2,16 @@
 #![tactic(auto)]
 
 use sdc_cli::{FileInputs, FileOutputs, Status, announce, exit_number, run};
-use std::env;
 use std::io::ErrorKind;
 use std::process::ExitCode;
+use std::{env, fs};
 
 fn main(rt: HostRuntime) -> ExitCode {
     let alloc = rt.alloc();
+    // The system gives an opened file the least free number. Three that are open to the end take those of
+    // the streams that the shell closed, so that no file gets what is written to a stream. What is written
+    // to them fails, since they are a folder.
+    let taken = [fs::open(&rt, "/"), fs::open(&rt, "/"), fs::open(&rt, "/")];
     // A word that is no UTF-8 makes the command line wrong.
     let words: Result<Vec<String>, Status> = match env::args(&rt) {
         Ok(words) => words.skip(1).collect(alloc).map_err(|_| Status::NoMemory),
@@ -16,6 +20,9 @@ fn main(rt: HostRuntime) -> ExitCode {
     };
     let mut outputs = FileOutputs::new(&rt, rt.stdout(), rt.stderr());
     let status = match words {
+        Ok(_) if taken.iter().any(Result::is_err) => {
+            announce(alloc, None, Status::WriteFault, &mut outputs)
+        }
         Ok(words) => {
             let mut inputs = FileInputs::new(&rt);
             run(alloc, words.as_slice(), &mut inputs, &mut outputs)

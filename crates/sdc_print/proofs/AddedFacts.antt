@@ -1,4 +1,4 @@
--- Bytes that are added to a sink one behind the other, and none; counts past 64 bits.
+-- Bytes that are added to a sink one after the other, and none; counts past 64 bits.
 use Rattle.std.proofs.Common.{◌≡◌, ℕ, List, [], ◌++◌, Result, Ok, Err, OnErr, ap, ◌∙◌, arith, append_assoc, length-append, add-zero, subst, sym}
 use Rattle.std.proofs.lemmas.List.{append-nil}
 use Rattle.sdc_print.specs.declared.sinks.Sink.{Sink}
@@ -15,7 +15,7 @@ unfolding added
 added_none (Bytes bytes) = ap Bytes (append-nil bytes)
 added_none (Count count) = ap Count (add-zero count)
 
--- several one behind the other
+-- several one after the other
 pub added_five : (s : Sink) (a b c d e : List ℕ) → added (added (added (added (added s a) b) c) d) e ≡ added s (a ++ (b ++ (c ++ (d ++ e))))
 added_five s a b c d e = simp (added_added, append_assoc)
 

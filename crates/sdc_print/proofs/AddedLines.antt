@@ -6,8 +6,8 @@ use Rattle.timing_types.specs.declared.clocks.Pair.{Pair}
 use Rattle.timing_types.specs.declared.clocks.Wave.{Wave}
 use Rattle.timing_types.specs.declared.designs.Design.{Design}
 use Rattle.timing_types.specs.declared.modes.Mode.{Mode}
-use Rattle.sdc_model.specs.PrintedLine.{line_text, lines_text, name_word, spaced, spelled}
-use Rattle.sdc_model.specs.PrintedFile.{clock_line, clock_lines, group_lines, header_lines, names_at, printed_file, unit_text}
+use Rattle.mode_model.specs.PrintedLine.{line_text, lines_text, name_word, spaced, spelled}
+use Rattle.mode_model.specs.PrintedFile.{clock_line, clock_lines, group_lines, header_lines, names_at, printed_file, unit_text}
 use Rattle.sdc_print.specs.declared.sinks.Sink.{Sink}
 use Rattle.sdc_print.specs.Added.{added}
 use Rattle.sdc_print.specs.Runs.{group_text, seconds}

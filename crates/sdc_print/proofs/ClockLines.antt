@@ -9,18 +9,19 @@ use Rattle.timing_types.specs.declared.clocks.Clock.{Clock}
 use Rattle.timing_types.specs.declared.clocks.Wave.{Wave}
 use Rattle.source_types.specs.declared.commands.Part.TheVariants as part
 use Rattle.timing_types.specs.declared.objects.Value.TheVariants as value
-use Rattle.sdc_model.specs.BuiltIns.{no_text}
-use Rattle.sdc_model.specs.ClockCommands.{clock_waved, most_file_clocks}
-use Rattle.sdc_model.specs.ClockFile.{SoFar, is_name, is_taken, virtual_clock, wave_given}
-use Rattle.sdc_model.specs.ModeHost.{adds_clock, answer, mode_host}
-use Rattle.sdc_model.specs.NamedCommands.{named}
-use Rattle.sdc_model.specs.PlainViews.{without_line}
-use Rattle.sdc_model.specs.PrintedCommands.{word_of}
-use Rattle.sdc_model.specs.PrintedFile.{ArePrintableClocks, IsPrintableWave, clock_line, clock_lines, header_lines, lines_of_form, unit_text}
-use Rattle.sdc_model.specs.PrintedLine.{PrintedWord, bare, braced, is_bare_text, name_word, spaced}
-use Rattle.sdc_model.specs.ScriptRun.{outermost}
-use Rattle.sdc_model.specs.Variables.{with_variable}
-use Rattle.sdc_model.specs.Words.{same_text}
+use Rattle.tcl_model.specs.BuiltIns.{no_text}
+use Rattle.mode_model.specs.ClockCommands.{clock_waved, most_file_clocks}
+use Rattle.mode_model.specs.ClockFile.{SoFar, is_name, is_taken, virtual_clock, wave_given}
+use Rattle.mode_model.specs.ModeHost.{adds_clock, answer, mode_host}
+use Rattle.tcl_model.specs.NamedCommands.{named}
+use Rattle.constraint_model.specs.ModeLines.{without_line}
+use Rattle.mode_model.specs.PrintedCommands.{word_of}
+use Rattle.mode_model.specs.PrintedFile.{ArePrintableClocks, clock_line, clock_lines, header_lines, lines_of_form, unit_text}
+use Rattle.constraint_model.specs.ClockWaves.{IsPrintableWave}
+use Rattle.mode_model.specs.PrintedLine.{PrintedWord, bare, braced, is_bare_text, name_word, spaced}
+use Rattle.tcl_model.specs.ScriptRun.{outermost}
+use Rattle.tcl_model.specs.Variables.{with_variable}
+use Rattle.text_model.specs.Words.{same_text}
 use Rattle.sdc_print.proofs.LineRuns.{AreTexts, Goes, RunsLine, command_runs, goes_line, goes_none, goes_on, texts_call, texts_run, values_of, world}
 use Rattle.sdc_print.proofs.WaveText.{ns, wave_text}
 
@@ -63,7 +64,7 @@ clock_other : named (codes "create_clock") ≡ command.Other
 unfolding named
 clock_other = refl
 
--- the words behind the name of the command
+-- the words after the name of the command
 abbrev clock_texts : List ℕ → Wave → List (List ℕ)
 clock_texts name wave =
     codes "-name" ∷ name ∷ codes "-period" ∷ time_text_of wave.period ns

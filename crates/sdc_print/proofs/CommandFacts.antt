@@ -5,16 +5,16 @@ use Rattle.std.proofs.lemmas.Bool.{and_parts}
 use Rattle.std.proofs.lemmas.List.{append-nil, length-append}
 use Rattle.source_types.specs.declared.commands.Word.{Word}
 use Rattle.source_types.specs.declared.kinds.TclKind.{TclKind}
-use Rattle.sdc_model.specs.Bytes.{before, is_end, is_space, line_after}
-use Rattle.sdc_model.specs.Commands.{AreCommands, AreWords, CommandFront, IsCommand, IsFirst, IsWordOf, Place, StandsWord, WordFront, ended_command, may_follow, opening}
-use Rattle.sdc_model.specs.Continued.{behind_gap, from_command, parting}
-use Rattle.sdc_model.specs.Row.{found, stops}
-use Rattle.sdc_model.specs.PrintedLine.{PrintedWord, spelled, words_text, line_text, lines_text}
-use Rattle.sdc_model.specs.PrintedCommands.{AreSpelled, AreSpelledLines, LineIsFirst, LinesAreCommands, word_of, command_of, commands_of}
-use Rattle.sdc_model.proofs.ByteFacts.{gap_nil}
+use Rattle.text_model.specs.Bytes.{before, is_end, is_space, line_after}
+use Rattle.tcl_model.specs.Commands.{AreCommands, AreWords, CommandFront, IsCommand, IsFirst, IsWordOf, Place, StandsWord, WordFront, ended_command, may_follow, opening}
+use Rattle.text_model.specs.Continued.{after_gap, from_command, parting}
+use Rattle.text_model.specs.Row.{found, stops}
+use Rattle.mode_model.specs.PrintedLine.{PrintedWord, spelled, words_text, line_text, lines_text}
+use Rattle.mode_model.specs.PrintedCommands.{AreSpelled, AreSpelledLines, LineIsFirst, LinesAreCommands, word_of, command_of, commands_of}
+use Rattle.text_model.proofs.ByteFacts.{gap_nil}
 use Rattle.sdc_print.proofs.PlainWords.{before_is}
 
--- the words behind another one, each behind a blank
+-- the words after another one, each after a blank
 abbrev pub more_text : List PrintedWord → List ℕ
 more_text [] = []
 more_text (word ∷ words) = 32 ∷ (spelled word ++ more_text words)
@@ -23,26 +23,26 @@ words_text_is : (word : PrintedWord) (words : List PrintedWord) → words_text (
 words_text_is word [] = sym (append-nil (spelled word))
 words_text_is word (next ∷ words) = ap (λ l. spelled word ++ (32 ∷ l)) (words_text_is next words)
 
--- what stands behind the last word of a command
+-- what stands after the last word of a command
 record Ends (rest : List ℕ) : Type 0 where
   follows : may_follow rest ≡ true
   stands : StandsWord rest (stops (Ok rest))
 
--- behind a word comes a blank or the end
+-- after a word comes a blank or the end
 parts_words : (words : List PrintedWord) (rest : List ℕ) → Ends rest → may_follow (more_text words ++ rest) ≡ true
 parts_words [] rest e = e.follows
 parts_words (word ∷ words) rest e = refl
 
-gap_blank : (text : List ℕ) → behind_gap false (32 ∷ text) ≡ behind_gap false text
-unfolding behind_gap
+gap_blank : (text : List ℕ) → after_gap false (32 ∷ text) ≡ after_gap false text
+unfolding after_gap
 gap_blank text = refl
 
-gap_newline : (rest : List ℕ) → behind_gap false (10 ∷ rest) ≡ 10 ∷ rest
-unfolding behind_gap
+gap_newline : (rest : List ℕ) → after_gap false (10 ∷ rest) ≡ 10 ∷ rest
+unfolding after_gap
 gap_newline rest = refl
 
-behind_blank : (text : List ℕ) (front : WordFront) → StandsWord text front → StandsWord (32 ∷ text) front
-behind_blank text front w = subst (λ (t : List ℕ). IsWordOf (opening t) t front) (sym (gap_blank text)) w
+after_blank : (text : List ℕ) (front : WordFront) → StandsWord text front → StandsWord (32 ∷ text) front
+after_blank text front w = subst (λ (t : List ℕ). IsWordOf (opening t) t front) (sym (gap_blank text)) w
 
 line_ends : (rest : List ℕ) → Ends (10 ∷ rest)
 line_ends rest = record {
@@ -56,22 +56,22 @@ text_ends = record { follows = refl; stands = subst (λ (t : List ℕ). IsWordOf
 are_more_words : (words : List PrintedWord) (rest : List ℕ) → AreSpelled words → Ends rest → AreWords (map word_of words) (more_text words ++ rest) (Ok rest)
 are_more_words [] rest s e = e.stands
 are_more_words (word ∷ words) rest s e =
-    let after = more_text words ++ rest in (
-      after,
-      subst (λ (t : List ℕ). StandsWord t (found (word_of word) after)) (sym (ap (λ (l : List ℕ). 32 ∷ l) (append_assoc (spelled word) (more_text words) rest)))
-          (behind_blank (spelled word ++ after) (found (word_of word) after) (s.0.stands after (parts_words words rest e))),
+    let later = more_text words ++ rest in (
+      later,
+      subst (λ (t : List ℕ). StandsWord t (found (word_of word) later)) (sym (ap (λ (l : List ℕ). 32 ∷ l) (append_assoc (spelled word) (more_text words) rest)))
+          (after_blank (spelled word ++ later) (found (word_of word) later) (s.0.stands later (parts_words words rest e))),
       are_more_words words rest s.1 e,
     )
 
--- a line is its first word, what comes behind it, and its end
+-- a line is its first word, what comes after it, and its end
 line_is : (word : PrintedWord) (words : List PrintedWord) (rest : List ℕ) → words_text (word ∷ words) ++ rest ≡ spelled word ++ (more_text words ++ rest)
 line_is word words rest = ap (λ (l : List ℕ). l ++ rest) (words_text_is word words) ∙ append_assoc (spelled word) (more_text words) rest
 
 are_words : (word : PrintedWord) (words : List PrintedWord) (rest : List ℕ) → AreSpelled (word ∷ words) → Ends rest → AreWords (map word_of (word ∷ words)) (words_text (word ∷ words) ++ rest) (Ok rest)
 are_words word words rest s e =
-    let after = more_text words ++ rest in (
-      after,
-      subst (λ (t : List ℕ). StandsWord t (found (word_of word) after)) (sym (line_is word words rest)) (s.0.stands after (parts_words words rest e)),
+    let later = more_text words ++ rest in (
+      later,
+      subst (λ (t : List ℕ). StandsWord t (found (word_of word) later)) (sym (line_is word words rest)) (s.0.stands later (parts_words words rest e)),
       are_more_words words rest s.1 e,
     )
 
@@ -96,18 +96,18 @@ command_here : (text : List ℕ) (place : Place) (front : CommandFront) (words :
 command_here [] place front words end some row e = absurd (omega arith)
 command_here (b ∷ bs) place front words end some row e = (words, end, row, e)
 
--- words behind what parts commands, and before their end
+-- words after what parts commands, and before their end
 first_of : (skipped : List ℕ) (words : List PrintedWord) (rest : List ℕ) (line : ℕ) → list_all is_parting skipped ≡ true → 0 < length words → AreSpelled words → Ends rest
     → IsFirst (skipped ++ (words_text words ++ rest)) line (command_of (line_after skipped line) words) rest (line_after (words_text words) (line_after skipped line))
 first_of skipped [] rest line p h s e = absurd (omega arith)
 first_of skipped (word ∷ words) rest line p h s e =
     let body : List ℕ = words_text (word ∷ words) ++ rest in
-    let after : List ℕ = more_text words ++ rest in
+    let later : List ℕ = more_text words ++ rest in
     let begin : ℕ = line_after skipped line in
     let front : CommandFront = found (command_of begin (word ∷ words)) (record { text = rest; line = line_after (words_text (word ∷ words)) begin }) in
     let starts : from_command parting (skipped ++ body) ≡ body =
-    from_skipped skipped body p ∙ (ap (from_command parting) (line_is word words rest) ∙ (s.0.first after (parts_words words rest e) ∙ sym (line_is word words rest))) in
-    let long : 0 < length body = omega (arith, ap length (line_is word words rest), length-append (spelled word) after, s.0.some) in
+    from_skipped skipped body p ∙ (ap (from_command parting) (line_is word words rest) ∙ (s.0.first later (parts_words words rest e) ∙ sym (line_is word words rest))) in
+    let long : 0 < length body = omega (arith, ap length (line_is word words rest), length-append (spelled word) later, s.0.some) in
     let place : Place = record { text = body; line = begin } in
     let here : IsCommand body place front =
     command_here body place front (map word_of (word ∷ words)) (Ok rest) long (are_words word words rest s e)
@@ -116,7 +116,7 @@ first_of skipped (word ∷ words) rest line p h s e =
     subst (λ (t : List ℕ). IsCommand body (record { text = body; line = line_after t line }) front) (sym (before_is skipped body)) here in
     subst (λ (t : List ℕ). IsCommand t (record { text = t; line = line_after (before (skipped ++ body) t) line }) front) (sym starts) lined
 
--- a line behind what parts commands, and before other text
+-- a line after what parts commands, and before other text
 is_first : (skipped : List ℕ) (words : List PrintedWord) (rest : List ℕ) (line : ℕ) → list_all is_parting skipped ≡ true → 0 < length words → AreSpelled words → IsFirst (skipped ++ (line_text words ++ rest)) line (command_of (line_after skipped line) words) (10 ∷ rest) (line_after (words_text words) (line_after skipped line))
 is_first skipped words rest line p h s =
     let begin : ℕ = line_after skipped line in
@@ -134,17 +134,17 @@ nothing_left : (text : List ℕ) (line : ℕ) → list_all is_parting text ≡ t
 nothing_left text line p =
     subst (λ (t : List ℕ). IsCommand t (record { text = t; line = line_after (before text t) line }) (stops None)) (sym (ap (from_command parting) (sym (append-nil text)) ∙ (from_skipped text [] p ∙ none_left))) refl
 
--- lines behind what parts commands
+-- lines after what parts commands
 are_commands : (lines : List (List PrintedWord)) (skipped : List ℕ) (line : ℕ) → list_all is_parting skipped ≡ true → AreSpelledLines lines → AreCommands (commands_of (line_after skipped line) lines) (skipped ++ lines_text lines) line
 are_commands [] skipped line p s = subst (λ (t : List ℕ). AreCommands [] t line) (sym (append-nil skipped)) (nothing_left skipped line p)
 are_commands (words ∷ lines) skipped line p s =
     let begin = line_after skipped line in
-    let behind = line_after (words_text words) begin in
+    let after = line_after (words_text words) begin in
     let rest = lines_text lines in
-    let others = are_commands lines (codes "\n") behind refl s.2 in (
-      record { text = 10 ∷ rest; line = behind },
+    let others = are_commands lines (codes "\n") after refl s.2 in (
+      record { text = 10 ∷ rest; line = after },
       is_first skipped words rest line p s.0 s.1,
-      subst (λ n. AreCommands (commands_of n lines) (10 ∷ rest) behind) (sym (line_after-append (words_text words) (codes "\n") begin)) others,
+      subst (λ n. AreCommands (commands_of n lines) (10 ∷ rest) after) (sym (line_after-append (words_text words) (codes "\n") begin)) others,
     )
 
 pub lines_are_commands : (lines : List (List PrintedWord)) → LinesAreCommands lines
@@ -153,9 +153,9 @@ lines_are_commands lines line s = are_commands lines [] line refl s
 -- words alone are the one command of their text
 pub words_are_command : (words : List PrintedWord) (line : ℕ) → 0 < length words → AreSpelled words → AreCommands (command_of line words ∷ []) (words_text words) line
 words_are_command words line h s =
-    let behind : ℕ = line_after (words_text words) line in
+    let after : ℕ = line_after (words_text words) line in
     let whole : words_text words ++ [] ≡ words_text words = append-nil (words_text words) in (
-      record { text = []; line = behind },
-      subst (λ (t : List ℕ). IsFirst t line (command_of line words) [] behind) whole (first_of [] words [] line refl h s text_ends),
-      nothing_left [] behind refl,
+      record { text = []; line = after },
+      subst (λ (t : List ℕ). IsFirst t line (command_of line words) [] after) whole (first_of [] words [] line refl h s text_ends),
+      nothing_left [] after refl,
     )

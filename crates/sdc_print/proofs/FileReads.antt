@@ -7,15 +7,15 @@ use Rattle.timing_types.specs.declared.modes.Mode.{Mode}
 use Rattle.timing_types.specs.declared.clocks.Form.{Form}
 use Rattle.timing_types.specs.declared.clocks.Form.TheVariants.{Generated, Primary}
 use Rattle.timing_types.specs.declared.objects.Value.TheVariants as value
-use Rattle.sdc_model.specs.ClockCommands.{most_file_clocks}
-use Rattle.sdc_model.specs.ClockFile.{SoFar, clock_mode, nothing, pairs_apart}
-use Rattle.sdc_model.specs.ModeHost.{mode_host}
-use Rattle.sdc_model.specs.ModeMeaning.{SaysMode}
-use Rattle.sdc_model.specs.PlainViews.{without_line}
-use Rattle.sdc_model.specs.PrintedCommands.{commands_of}
-use Rattle.sdc_model.specs.PrintedFile.{IsPrintable, clock_lines, exclusive_to, group_lines, header_lines, lines_of_form, lines_of_group, names_at, printed_file, without_lines}
-use Rattle.sdc_model.specs.PrintedLine.{PrintedWord, lines_text}
-use Rattle.sdc_model.specs.ScriptRun.{Runs, most_commands}
+use Rattle.mode_model.specs.ClockCommands.{most_file_clocks}
+use Rattle.mode_model.specs.ClockFile.{SoFar, clock_mode, nothing, pairs_apart}
+use Rattle.mode_model.specs.ModeHost.{mode_host}
+use Rattle.mode_model.specs.ModeMeaning.{SaysMode}
+use Rattle.constraint_model.specs.ModeLines.{without_line}
+use Rattle.mode_model.specs.PrintedCommands.{commands_of}
+use Rattle.mode_model.specs.PrintedFile.{IsPrintable, clock_lines, exclusive_to, group_lines, header_lines, lines_of_form, lines_of_group, names_at, printed_file, without_lines}
+use Rattle.mode_model.specs.PrintedLine.{PrintedWord, lines_text}
+use Rattle.tcl_model.specs.ScriptRun.{Runs, most_commands}
 use Rattle.sdc_print.specs.FileLaw.{FileReadsBack}
 use Rattle.sdc_print.proofs.ClockLines.{Said, clock_lines_go, count_same, header_goes}
 use Rattle.sdc_print.proofs.CommandFacts.{lines_are_commands}

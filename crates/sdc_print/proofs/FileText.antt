@@ -7,9 +7,9 @@ use Rattle.std.proofs.lemmas.Str.Ascii.{IsAscii-cons, IsAscii-nil}
 use Rattle.std.specs.List.{list_all}
 use Rattle.std.specs.Str.{IsAscii, IsUtf8}
 use Rattle.sdc_base.proofs.ReadBackFacts.{list_all-append}
-use Rattle.sdc_model.specs.Commands.{IsWord}
-use Rattle.sdc_model.specs.PrintedCommands.{AreSpelled, AreSpelledLines, word_of}
-use Rattle.sdc_model.specs.PrintedLine.{PrintedWord, bare, braced, list_word, query_word, spelled, spaced, words_text, line_text, lines_text}
+use Rattle.tcl_model.specs.Commands.{IsWord}
+use Rattle.mode_model.specs.PrintedCommands.{AreSpelled, AreSpelledLines, word_of}
+use Rattle.mode_model.specs.PrintedLine.{PrintedWord, bare, braced, list_word, query_word, spelled, spaced, words_text, line_text, lines_text}
 use Rattle.sdc_print.proofs.PlainWords.{all_pass, bare_is_word, braced_is_word, is_braced, is_plain}
 use Rattle.sdc_print.proofs.QueryWords.{query_is_word}
 
@@ -113,7 +113,7 @@ items_braced (text ∷ []) items = item_braced text items.0
 items_braced (text ∷ next ∷ texts) items =
     list_all-append is_braced text (32 ∷ spaced (next ∷ texts)) (item_braced text items.0) (items_braced (next ∷ texts) items.1)
 
--- lines of words, one behind the other
+-- lines of words, one after the other
 pub spelled_append : (first second : List (List PrintedWord)) → AreFineLines first → AreFineLines second → AreFineLines (first ++ second)
 spelled_append [] second f s = s
 spelled_append (words ∷ first) second f s = (f.0, f.1, spelled_append first second f.2 s)

@@ -4,8 +4,8 @@ use Rattle.std.proofs.lemmas.List.{append-nil}
 use Rattle.std.proofs.Math.Seq.{drop-cons}
 use Rattle.timing_types.specs.declared.clocks.Clock.{Clock}
 use Rattle.timing_types.specs.declared.clocks.Pair.{Pair}
-use Rattle.sdc_model.specs.PrintedLine.{spaced, line_text, lines_text}
-use Rattle.sdc_model.specs.PrintedFile.{names_at, name_of, exclusive_to, group_line, group_lines, lines_of_group}
+use Rattle.mode_model.specs.PrintedLine.{spaced, line_text, lines_text}
+use Rattle.mode_model.specs.PrintedFile.{names_at, name_of, exclusive_to, group_line, group_lines, lines_of_group}
 use Rattle.sdc_print.specs.Runs.{run_length, seconds, group_text}
 use Rattle.sdc_print.proofs.LineFacts.{lines_text-append}
 use Rattle.sdc_print.proofs.RunFacts.{TakesRun, later_without_run}
@@ -27,7 +27,7 @@ gap_length : (k : ℕ) → length (gap_text k) ≡ min k 1
 gap_length zero = refl
 gap_length (suc k) = omega arith
 
--- what is left of the names behind so many
+-- what is left of the names after so many
 abbrev pub tail_text : ℕ → List (List ℕ) → List ℕ
 tail_text k [] = []
 tail_text k (name ∷ names) = gap_text k ++ spaced (name ∷ names)

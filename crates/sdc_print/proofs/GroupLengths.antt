@@ -8,8 +8,8 @@ use Rattle.timing_types.specs.declared.clocks.Clock.{Clock}
 use Rattle.timing_types.specs.declared.clocks.Pair.{Pair}
 use Rattle.timing_types.specs.declared.designs.Design.{Design}
 use Rattle.timing_types.specs.declared.modes.Mode.{Mode}
-use Rattle.sdc_model.specs.PrintedLine.{lines_text}
-use Rattle.sdc_model.specs.PrintedFile.{clock_lines, exclusive_to, group_lines, header_lines, lines_of_group, names_at, printed_file}
+use Rattle.mode_model.specs.PrintedLine.{lines_text}
+use Rattle.mode_model.specs.PrintedFile.{clock_lines, exclusive_to, group_lines, header_lines, lines_of_group, names_at, printed_file}
 use Rattle.sdc_print.specs.Runs.{group_text, groups_text}
 use Rattle.sdc_print.proofs.LineFacts.{lines_text-append, printed_file_is}
 

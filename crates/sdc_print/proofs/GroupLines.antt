@@ -8,20 +8,21 @@ use Rattle.timing_types.specs.declared.clocks.Pair.{Pair}
 use Rattle.source_types.specs.declared.commands.Word.{Word}
 use Rattle.timing_types.specs.declared.objects.Value.{Value}
 use Rattle.timing_types.specs.declared.objects.Value.TheVariants as value
-use Rattle.sdc_model.specs.BuiltIns.{no_text}
-use Rattle.sdc_model.specs.ClockCommands.{groups_placed, in_order, with_effect}
-use Rattle.sdc_model.specs.ClockFile.{SoFar}
-use Rattle.sdc_model.specs.ClockGroups.{clock_places, places_of}
-use Rattle.sdc_model.specs.HostCalls.{World}
-use Rattle.sdc_model.specs.ModeHost.{adds_groups, answer, mode_host}
-use Rattle.sdc_model.specs.NamedCommands.{named}
-use Rattle.sdc_model.specs.PlainViews.{without_line}
-use Rattle.sdc_model.specs.PrintedCommands.{word_of}
-use Rattle.sdc_model.specs.PrintedFile.{ArePairs, ArePrintableClocks, clocks_word, exclusive_to, group_line, group_lines, lines_of_group, names_at}
-use Rattle.sdc_model.specs.PrintedLine.{bare}
-use Rattle.sdc_model.specs.ScriptRun.{most_commands, outermost}
-use Rattle.sdc_model.specs.Variables.{Variable}
-use Rattle.sdc_model.specs.WordValues.{RunsWords}
+use Rattle.tcl_model.specs.BuiltIns.{no_text}
+use Rattle.mode_model.specs.ClockCommands.{groups_placed, in_order, with_effect}
+use Rattle.mode_model.specs.ClockFile.{SoFar}
+use Rattle.mode_model.specs.ClockGroups.{clock_places, places_of}
+use Rattle.tcl_model.specs.HostCalls.{World}
+use Rattle.mode_model.specs.ModeHost.{adds_groups, answer, mode_host}
+use Rattle.tcl_model.specs.NamedCommands.{named}
+use Rattle.constraint_model.specs.ModeLines.{without_line}
+use Rattle.mode_model.specs.PrintedCommands.{word_of}
+use Rattle.constraint_model.specs.ExclusivePairs.{ArePairs}
+use Rattle.mode_model.specs.PrintedFile.{ArePrintableClocks, clocks_word, exclusive_to, group_line, group_lines, lines_of_group, names_at}
+use Rattle.mode_model.specs.PrintedLine.{bare}
+use Rattle.tcl_model.specs.ScriptRun.{most_commands, outermost}
+use Rattle.tcl_model.specs.Variables.{Variable}
+use Rattle.tcl_model.specs.WordValues.{RunsWords}
 use Rattle.sdc_print.proofs.ClockLines.{Said, count_same}
 use Rattle.sdc_print.proofs.FileText.{AreFineLines, AreItems, IsItem, bare_spelled, items_braced, query_spelled, spelled_append}
 use Rattle.sdc_print.proofs.GroupPairs.{exclusive_within, others_rise, said_by, said_from}
@@ -40,7 +41,7 @@ record AreFound (clocks : List Clock) (places : List ℕ) (names : List (List �
   ordered : in_order places ≡ places
   some : 0 < length places
 
--- the values of the words behind the name of the command, and what the command makes of them
+-- the values of the words after the name of the command, and what the command makes of them
 abbrev group_values : List ℕ → List ℕ → List Value
 group_values first second =
     value.Text (codes "-asynchronous") ∷ value.Text (codes "-group") ∷ value.Objects (objects_at first)
@@ -79,9 +80,9 @@ group_words_run start line variables begun name names first second few f s =
     let option : Word = word_of (bare (codes "-group")) in
     let last = word_runs (outermost mode_host line) other [] (value.Objects (objects_at second)) [] between end end
     (query_gives start line variables (begun + 1) names second (omega arith) s.texts s.found s.ordered) (refl, refl) in
-    let behind = word_runs (outermost mode_host line) option (other ∷ []) (value.Text (codes "-group")) (value.Objects (objects_at second) ∷ []) between between end (refl, refl) last in
+    let after = word_runs (outermost mode_host line) option (other ∷ []) (value.Text (codes "-group")) (value.Objects (objects_at second) ∷ []) between between end (refl, refl) last in
     let queried = word_runs (outermost mode_host line) one (option ∷ other ∷ []) (value.Objects (objects_at first)) (value.Text (codes "-group") ∷ value.Objects (objects_at second) ∷ []) begin between end
-    (query_gives start line variables begun (name ∷ []) first (omega arith) f.texts f.found f.ordered) behind in
+    (query_gives start line variables begun (name ∷ []) first (omega arith) f.texts f.found f.ordered) after in
     let grouped = word_runs (outermost mode_host line) option (one ∷ option ∷ other ∷ []) (value.Text (codes "-group"))
     (value.Objects (objects_at first) ∷ value.Text (codes "-group") ∷ value.Objects (objects_at second) ∷ []) begin begin end (refl, refl) queried in
     let kind = word_runs (outermost mode_host line) (word_of (bare (codes "-asynchronous"))) (option ∷ one ∷ option ∷ other ∷ []) (value.Text (codes "-asynchronous"))

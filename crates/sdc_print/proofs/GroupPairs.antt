@@ -4,11 +4,13 @@ use Rattle.std.proofs.Math.Bool.{and-false, or-false}
 use Rattle.std.proofs.lemmas.Bool.{cases_eq, eq-eqb, ne_eqb}
 use Rattle.timing_types.specs.declared.clocks.Clock.{Clock}
 use Rattle.timing_types.specs.declared.clocks.Pair.{Pair}
-use Rattle.sdc_model.specs.ClockFile.{pairs_apart}
-use Rattle.sdc_model.specs.ClockGroups.{Groups, all_set_apart, exclusive_pairs, is_among, is_parted, pairs_from, pairs_with}
-use Rattle.sdc_model.specs.PrintedFile.{ArePairs, IsBehind, exclusive_to}
+use Rattle.mode_model.specs.ClockFile.{pairs_apart}
+use Rattle.mode_model.specs.ClockGroups.{Groups, all_set_apart, exclusive_pairs, is_parted, pairs_from, pairs_with}
+use Rattle.constraint_model.specs.ListOrder.{is_among}
+use Rattle.constraint_model.specs.ExclusivePairs.{ArePairs, IsAfter}
+use Rattle.mode_model.specs.PrintedFile.{exclusive_to}
 use Rattle.sdc_print.specs.Runs.{run_length}
-use Rattle.sdc_print.proofs.RunFacts.{AreFrom, TakesRun, all_from_zero, are_behind, exclusive_other, exclusive_same, later_without_run, none_from, run_none, run_other, run_same, takes_run}
+use Rattle.sdc_print.proofs.RunFacts.{AreFrom, TakesRun, all_from_zero, are_after, exclusive_other, exclusive_same, later_without_run, none_from, run_none, run_other, run_same, takes_run}
 
 -- the groups that a line says, and those that the lines from a place on say
 abbrev pub said_by : ℕ → List ℕ → List (List (List ℕ))
@@ -154,7 +156,7 @@ all_above count place (pair ∷ pairs) o = ((λ e. omega (arith, e, o.0)), all_a
 abbrev IsLater : ℕ → ℕ → Pair → Type 0
 IsLater place low pair = (place < pair.first) ⊎ ((place ≡ pair.first) × (low ≤ pair.second))
 
-next_later : (place low : ℕ) (pair next : Pair) (pairs : List Pair) → IsLater place low pair → IsBehind pair (next ∷ pairs) → IsLater place (suc low) next
+next_later : (place low : ℕ) (pair next : Pair) (pairs : List Pair) → IsLater place low pair → IsAfter pair (next ∷ pairs) → IsLater place (suc low) next
 next_later place low pair next pairs (inl l) (inl b) = inl (omega (arith, l, b))
 next_later place low pair next pairs (inl l) (inr b) = inl (omega (arith, l, b.0))
 next_later place low pair next pairs (inr l) (inl b) = inl (omega (arith, l.0, b))
@@ -164,12 +166,12 @@ later_above : (place low : ℕ) (pair : Pair) → IsLater place low pair → pai
 later_above place low pair (inl l) e = absurd (omega (arith, l, e))
 later_above place low pair (inr l) e = l.1
 
-above_behind : (count place low : ℕ) (pair : Pair) (pairs : List Pair) → IsLater place low pair → IsBehind pair pairs → ArePairs count pairs → AreAbove place (suc low) pairs
-above_behind count place low pair [] l b o = tt
-above_behind count place low pair (next ∷ pairs) l b o =
+above_after : (count place low : ℕ) (pair : Pair) (pairs : List Pair) → IsLater place low pair → IsAfter pair pairs → ArePairs count pairs → AreAbove place (suc low) pairs
+above_after count place low pair [] l b o = tt
+above_after count place low pair (next ∷ pairs) l b o =
     let later : IsLater place (suc low) next = next_later place low pair next pairs l b in
     let same : IsLater place low next = elim later [ inl n ↦ inl n | inr n ↦ inr (n.0, omega (arith, n.1)) ] in
-    (later_above place (suc low) next later, above_behind count place low next pairs same o.2 o.3)
+    (later_above place (suc low) next later, above_after count place low next pairs same o.2 o.3)
 
 -- the later clocks of one rise
 rise_from : (count place low : ℕ) (pairs : List Pair) → ArePairs count pairs → AreAbove place low pairs → Rises low count (exclusive_to place pairs)
@@ -177,8 +179,8 @@ rise_from count place low [] o a = tt
 rise_from count place low (pair ∷ pairs) o a =
     elim (cases_eq pair.first place) [
       | inl e ↦
-          let behind : AreAbove place (suc pair.second) pairs = above_behind count place pair.second pair pairs (inr (sym e, omega arith)) o.2 o.3 in
-          let rises : Rises low count (pair.second ∷ exclusive_to place pairs) = (a.0 e, o.1, rise_from count place (suc pair.second) pairs o.3 behind) in
+          let after : AreAbove place (suc pair.second) pairs = above_after count place pair.second pair pairs (inr (sym e, omega arith)) o.2 o.3 in
+          let rises : Rises low count (pair.second ∷ exclusive_to place pairs) = (a.0 e, o.1, rise_from count place (suc pair.second) pairs o.3 after) in
           subst (Rises low count) (sym (exclusive_same place pair pairs e)) rises
       | inr n ↦ subst (Rises low count) (sym (exclusive_other place pair pairs n)) (rise_from count place low pairs o.3 a.1)
     ]
@@ -186,7 +188,7 @@ rise_from count place low (pair ∷ pairs) o a =
 pub others_rise : (count place : ℕ) (pairs : List Pair) → ArePairs count pairs → Rises (suc place) count (exclusive_to place pairs)
 others_rise count place pairs o = rise_from count place (suc place) pairs o (all_above count place pairs o)
 
--- pairs are the run of a place and those behind it
+-- pairs are the run of a place and those after it
 run_and_rest : (count place : ℕ) (pairs : List Pair) → ArePairs count pairs → AreFrom place pairs → pairs ≡ pairs_of place (exclusive_to place pairs) ++ drop (run_length place pairs) pairs
 run_and_rest count place [] o f = ap (λ (k : ℕ). let q : List Pair = drop k [] in q) (sym (run_none place))
 run_and_rest count place (pair ∷ pairs) o f =
@@ -200,7 +202,7 @@ run_and_rest count place (pair ∷ pairs) o f =
           ∙ ap (λ (k : ℕ). pairs_of place (exclusive_to place (pair ∷ pairs)) ++ drop k (pair ∷ pairs)) (sym (run_same place pair pairs e))))
       | inr n ↦
           let above : suc place ≤ pair.first = omega (arith, n, f.0) in
-          let none : exclusive_to place (pair ∷ pairs) ≡ [] = none_from place (pair ∷ pairs) (above, are_behind count pair pairs (suc place) above o.2 o.3) in
+          let none : exclusive_to place (pair ∷ pairs) ≡ [] = none_from place (pair ∷ pairs) (above, are_after count pair pairs (suc place) above o.2 o.3) in
           ap (λ (os : List ℕ). pairs_of place os ++ (pair ∷ pairs)) (sym none)
           ∙ ap (λ (k : ℕ). pairs_of place (exclusive_to place (pair ∷ pairs)) ++ drop k (pair ∷ pairs)) (sym (run_other place pair pairs n))
     ]

@@ -1,11 +1,12 @@
 pub mod AddedFacts
+pub mod AddedLines
 pub mod ClockLines
 pub mod CommandFacts
 pub mod FileReads
 pub mod FileText
 pub mod GroupFacts
-pub mod GroupLines
 pub mod GroupLengths
+pub mod GroupLines
 pub mod GroupPairs
 pub mod LineFacts
 pub mod LineRuns
@@ -18,4 +19,3 @@ pub mod QueryRuns
 pub mod QueryWords
 pub mod RunFacts
 pub mod WaveText
-pub mod AddedLines

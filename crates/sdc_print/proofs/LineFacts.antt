@@ -1,4 +1,4 @@
--- How lines are spelled, as their parts one behind the other.
+-- How lines are spelled, as their parts one after the other.
 use Rattle.std.proofs.Common.{◌≡◌, ◌<◌, ℕ, ℤ, List, ◌∷◌, ◌++◌, append_assoc, codes, ap, ◌∙◌, length, drop, get_or, suc, map, sym}
 use Rattle.std.proofs.lemmas.List.{append-nil, map-append}
 use Rattle.std.proofs.lemmas.List.Folds.{concat-append}
@@ -9,8 +9,8 @@ use Rattle.timing_types.specs.declared.clocks.Clock.{Clock}
 use Rattle.timing_types.specs.declared.clocks.Wave.{Wave}
 use Rattle.timing_types.specs.declared.designs.Design.{Design}
 use Rattle.timing_types.specs.declared.modes.Mode.{Mode}
-use Rattle.sdc_model.specs.PrintedLine.{PrintedWord, spelled, spaced, line_text, lines_text, name_word}
-use Rattle.sdc_model.specs.PrintedFile.{clock_line, clock_lines, lines_of_form, group_line, group_lines, header_lines, unit_text, printed_file}
+use Rattle.mode_model.specs.PrintedLine.{PrintedWord, spelled, spaced, line_text, lines_text, name_word}
+use Rattle.mode_model.specs.PrintedFile.{clock_line, clock_lines, lines_of_form, group_line, group_lines, header_lines, unit_text, printed_file}
 
 regroup_clock : (a n b p c r d f e g : List ℕ) → (a ++ (n ++ (b ++ (p ++ (c ++ ((r ++ (d ++ f)) ++ e)))))) ++ g ≡ a ++ (n ++ (b ++ (p ++ (c ++ (r ++ (d ++ (f ++ (e ++ g))))))))
 regroup_clock a n b p c r d f e g = simp append_assoc

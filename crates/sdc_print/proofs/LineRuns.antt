@@ -1,4 +1,4 @@
--- How printed lines are run over the host of mode files: their words, their commands, and lines one behind the other.
+-- How printed lines are run over the host of mode files: their words, their commands, and lines one after the other.
 use Rattle.std.proofs.Common.{◌≡◌, ◌<◌, ◌≤◌, ◌+◌, ◌*◌, inl, ℕ, List, [], ◌∷◌, ◌++◌, length, map, None, Ok, refl, sym, subst, arith, append_assoc}
 use Rattle.source_types.specs.declared.built_ins.CommandName.{CommandName}
 use Rattle.source_types.specs.declared.built_ins.CommandName.TheVariants as command
@@ -8,19 +8,19 @@ use Rattle.source_types.specs.declared.commands.Part.TheVariants as part
 use Rattle.source_types.specs.declared.commands.Word.{Word}
 use Rattle.timing_types.specs.declared.objects.Value.{Value}
 use Rattle.timing_types.specs.declared.objects.Value.TheVariants as value
-use Rattle.sdc_model.specs.Bytes.{line_after}
-use Rattle.sdc_model.specs.ClockFile.{SoFar}
-use Rattle.sdc_model.specs.Commands.{Place, StandsCommand}
-use Rattle.sdc_model.specs.ExpressionRun.{Turn}
-use Rattle.sdc_model.specs.HostCalls.{World}
-use Rattle.sdc_model.specs.ModeHost.{Answer, IsAnswered, answer, mode_host}
-use Rattle.sdc_model.specs.NamedCommands.{RunsNamed, RunsValues, named}
-use Rattle.sdc_model.specs.PrintedCommands.{command_of, commands_of, word_of}
-use Rattle.sdc_model.specs.PrintedLine.{PrintedWord, line_text}
-use Rattle.sdc_model.specs.Row.{Row}
-use Rattle.sdc_model.specs.ScriptRun.{RunsCommand, RunsCommands, most_commands, outermost}
-use Rattle.sdc_model.specs.Variables.{Variable}
-use Rattle.sdc_model.specs.WordValues.{Level, Opened, RunsWord, RunsWords}
+use Rattle.text_model.specs.Bytes.{line_after}
+use Rattle.mode_model.specs.ClockFile.{SoFar}
+use Rattle.tcl_model.specs.Commands.{Place, StandsCommand}
+use Rattle.tcl_model.specs.ExpressionRun.{RunStep}
+use Rattle.tcl_model.specs.HostCalls.{World}
+use Rattle.mode_model.specs.ModeHost.{Answer, IsAnswered, answer, mode_host}
+use Rattle.tcl_model.specs.NamedCommands.{RunsNamed, RunsValues, named}
+use Rattle.mode_model.specs.PrintedCommands.{command_of, commands_of, word_of}
+use Rattle.mode_model.specs.PrintedLine.{PrintedWord, line_text}
+use Rattle.text_model.specs.Row.{Row}
+use Rattle.tcl_model.specs.ScriptRun.{RunsCommand, RunsCommands, most_commands, outermost}
+use Rattle.tcl_model.specs.Variables.{Variable}
+use Rattle.tcl_model.specs.WordValues.{Level, Opened, RunsWord, RunsWords}
 
 -- a world of a mode file
 abbrev pub world : List Variable → SoFar → ℕ → World SoFar
@@ -28,7 +28,7 @@ world variables host begun = record { variables = variables; host = host; begun 
 
 -- what opens levels, and a level over the host of mode files
 abbrev pub Opening : Type 1
-Opening = ℕ → Opened → Turn (World SoFar) Value
+Opening = ℕ → Opened → RunStep (World SoFar) Value
 
 abbrev pub level_at : ℕ → ℕ → Opening → Level SoFar
 level_at line left opens = record { host = mode_host; line = line; left = left; Opens = opens }
@@ -96,17 +96,17 @@ texts_call start now line words name texts given are other answers variables beg
     (call_runs line (outermost mode_host line).left (outermost mode_host line).Opens name (values_of texts) variables start now (begun + 1) given other answers) in
     (given, variables, begun + 1, omega arith, run)
 
--- lines are run one behind the other
+-- lines are run one after the other
 abbrev pub RunsLines : SoFar → ℕ → List (List PrintedWord) → SoFar → Type 0
 RunsLines start line [] now = now ≡ start
 RunsLines start line (words ∷ lines) now =
     (next : SoFar) × RunsLine start line words next × RunsLines next (line_after (line_text words) line) lines now
 
--- from what was said so far, lines go to something of a kind, whatever comes behind them
+-- from what was said so far, lines go to something of a kind, whatever comes after them
 abbrev pub Goes : SoFar → List (List PrintedWord) → (SoFar → Type 0) → Type 0
 Goes start lines End =
     (line : ℕ) (rest : List (List PrintedWord)) →
-    (now : SoFar) × (behind : ℕ) × End now × ((last : SoFar) → RunsLines now behind rest last → RunsLines start line (lines ++ rest) last)
+    (now : SoFar) × (later : ℕ) × End now × ((last : SoFar) → RunsLines now later rest last → RunsLines start line (lines ++ rest) last)
 
 pub goes_none : (start : SoFar) (End : SoFar → Type 0) → End start → Goes start [] End
 goes_none start End e line rest = (start, line, e, λ last runs. runs)
@@ -123,7 +123,7 @@ goes_on start first second Mid End f g line rest =
 -- ---- scripts
 
 -- each command by the level of its line
-abbrev pub Outermost : Command → Turn (World SoFar) Value
+abbrev pub Outermost : Command → RunStep (World SoFar) Value
 Outermost one = RunsCommand (outermost mode_host one.line) one
 
 -- lines that are the commands from a place on are run from there
@@ -137,6 +137,6 @@ lines_run (words ∷ lines) line place last start now variables begun row runs f
     (others.0, others.1, others.2, (row.0, row.1, (Ok here.0, world here.1 runs.0 here.2, here.4, others.3)))
 
 -- a script of one command
-pub one_command_runs : (Does : Command → Turn (World SoFar) Value) (one : Command) (place : Place) (last : Value) (before after : World SoFar) (given : Value)
+pub one_command_runs : (Does : Command → RunStep (World SoFar) Value) (one : Command) (place : Place) (last : Value) (before after : World SoFar) (given : Value)
     → Row StandsCommand (one ∷ []) place None → Does one before (Ok given) after → RunsCommands Does (one ∷ []) place last before (Ok given) after
 one_command_runs Does one place last before after given row does = (row.0, row.1, (Ok given, after, does, (None, row.2, refl, refl)))

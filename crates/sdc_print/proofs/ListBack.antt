@@ -4,12 +4,12 @@ use Rattle.std.proofs.lemmas.Bool.{and_parts}
 use Rattle.std.proofs.lemmas.Bool.Decides.{nat_tests}
 use Rattle.std.specs.List.{list_all}
 use Rattle.std.specs.Result.{result_ok}
-use Rattle.sdc_model.specs.Commands.{may_follow}
-use Rattle.sdc_model.specs.ListItems.{ItemFront, behind_parting, ended_bare_item, form_by, item_piece_at, parts_items}
-use Rattle.sdc_model.specs.ListReading.{ItemPieces, by_item, by_piece, item_at, item_of, items_in, items_of, list_of, pieces_in, with_item}
-use Rattle.sdc_model.specs.Pieces as grammar
-use Rattle.sdc_model.specs.PrintedLine.{spaced}
-use Rattle.sdc_model.specs.Row.{found, stops}
+use Rattle.tcl_model.specs.Commands.{may_follow}
+use Rattle.tcl_model.specs.ListItems.{ItemFront, after_parting, ended_bare_item, form_by, item_piece_at, parts_items}
+use Rattle.tcl_model.specs.ListReading.{ItemPieces, by_item, by_piece, item_at, item_of, items_in, items_of, list_of, pieces_in, with_item}
+use Rattle.tcl_model.specs.Pieces as grammar
+use Rattle.mode_model.specs.PrintedLine.{spaced}
+use Rattle.text_model.specs.Row.{found, stops}
 use Rattle.sdc_print.proofs.FileText.{AreItems, IsItem}
 use Rattle.sdc_print.proofs.PlainWords.{Plain, bare_run, is_plain, plain_byte}
 
@@ -18,7 +18,7 @@ use Rattle.sdc_print.proofs.PlainWords.{Plain, bare_run, is_plain, plain_byte}
 plain_parts : (b : ℕ) → is_plain b ≡ true → parts_items b ≡ false
 plain_parts b p = grind (arith, nat_tests)
 
--- what may stand behind an item here: nothing, or a blank
+-- what may stand after an item here: nothing, or a blank
 abbrev Ended : List ℕ → Type 0
 Ended rest = (may_follow rest ≡ true) × (item_piece_at grammar.bare rest ≡ stops (Ok rest))
 
@@ -48,11 +48,11 @@ bare_item b bs rest p all ends =
 plain_form : (b : ℕ) → Plain b → form_by b ≡ grammar.bare
 plain_form b p = rw (p.brace, p.quote) refl
 
-plain_start : (b : ℕ) (bs : List ℕ) → is_plain b ≡ true → behind_parting (b ∷ bs) ≡ b ∷ bs
-unfolding behind_parting
+plain_start : (b : ℕ) (bs : List ℕ) → is_plain b ≡ true → after_parting (b ∷ bs) ≡ b ∷ bs
+unfolding after_parting
 plain_start b bs p = rw (plain_parts b p, (plain_byte b p).backslash) refl
 
--- an item, and the list behind it
+-- an item, and the list after it
 item_more : (n : ℕ) (text rest : List ℕ) → IsItem text → Ended rest → items_in (suc n) (text ++ rest) ≡ with_item text (items_in n rest)
 item_more n [] rest item ends = absurd (omega (arith, item.some))
 item_more n (b ∷ bs) rest item ends =
@@ -64,12 +64,12 @@ item_more n (b ∷ bs) rest item ends =
 -- ---- items with blanks between them
 
 none_left : (n : ℕ) → items_in (suc n) [] ≡ Ok []
-unfolding behind_parting
+unfolding after_parting
 none_left n = refl
 
-behind_blank : (n : ℕ) (rest : List ℕ) → items_in (suc n) (32 ∷ rest) ≡ items_in (suc n) rest
-unfolding behind_parting
-behind_blank n rest = refl
+after_blank : (n : ℕ) (rest : List ℕ) → items_in (suc n) (32 ∷ rest) ≡ items_in (suc n) rest
+unfolding after_parting
+after_blank n rest = refl
 
 spaced_items : (n : ℕ) (texts : List (List ℕ)) → AreItems texts → length texts ≤ n → items_in (suc n) (spaced texts) ≡ Ok texts
 spaced_items n [] a h = none_left n
@@ -78,7 +78,7 @@ spaced_items (suc m) (text ∷ []) a h =
     ap (items_in (suc (suc m))) (sym (append-nil text)) ∙ (item_more (suc m) text [] a.0 at_end ∙ ap (with_item text) (none_left m))
 spaced_items (suc m) (text ∷ next ∷ texts) a h =
     item_more (suc m) text (32 ∷ spaced (next ∷ texts)) a.0 (before_blank (spaced (next ∷ texts)))
-    ∙ ap (with_item text) (behind_blank m (spaced (next ∷ texts)) ∙ spaced_items m (next ∷ texts) a.1 (omega (arith, h)))
+    ∙ ap (with_item text) (after_blank m (spaced (next ∷ texts)) ∙ spaced_items m (next ∷ texts) a.1 (omega (arith, h)))
 
 -- there are no more items than bytes
 few_items : (texts : List (List ℕ)) → AreItems texts → length texts ≤ length (spaced texts)

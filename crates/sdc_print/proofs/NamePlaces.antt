@@ -9,12 +9,12 @@ use Rattle.std.specs.Ordering.{match_ordering, nat_cmp}
 use Rattle.timing_types.specs.declared.clocks.Clock.{Clock}
 use Rattle.timing_types.specs.declared.objects.Object.{Object}
 use Rattle.timing_types.specs.declared.objects.Object.TheVariants as object
-use Rattle.sdc_model.specs.ClockCommands.{in_order, put_in_order}
-use Rattle.sdc_model.specs.ClockFile.{is_taken}
-use Rattle.sdc_model.specs.ClockGroups.{clock_places, place_from, places_of}
-use Rattle.sdc_model.specs.PlainViews.{without_line}
-use Rattle.sdc_model.specs.PrintedFile.{ArePrintableClocks, name_of, names_at}
-use Rattle.sdc_model.specs.Words.{same_text}
+use Rattle.mode_model.specs.ClockCommands.{in_order, put_in_order}
+use Rattle.mode_model.specs.ClockFile.{is_taken}
+use Rattle.mode_model.specs.ClockGroups.{clock_places, place_from, places_of}
+use Rattle.constraint_model.specs.ModeLines.{without_line}
+use Rattle.mode_model.specs.PrintedFile.{ArePrintableClocks, name_of, names_at}
+use Rattle.text_model.specs.Words.{same_text}
 use Rattle.sdc_print.proofs.FileText.{AreItems, IsItem}
 use Rattle.sdc_print.proofs.GroupPairs.{AreWithin, Rises}
 use Rattle.sdc_print.proofs.PrintedFacts.{name_item}
@@ -109,12 +109,12 @@ raised : (done : List ℕ) (low place : ℕ) → low ≤ place → AreBelow low 
 raised [] low place h b = tt
 raised (first ∷ done) low place h b = (omega (arith, h, b.0), raised done low place h b.1)
 
-put_behind : (done places : List ℕ) (low end : ℕ) → AreBelow low done → Rises low end places → put_in_order done places ≡ done ++ places
-put_behind done [] low end b r = sym (append-nil done)
-put_behind done (place ∷ places) low end b r =
+put_after : (done places : List ℕ) (low end : ℕ) → AreBelow low done → Rises low end places → put_in_order done places ≡ done ++ places
+put_after done [] low end b r = sym (append-nil done)
+put_after done (place ∷ places) low end b r =
     ap (λ (ps : List ℕ). put_in_order ps places) (goes_last done place (raised done low place r.0 b))
-    ∙ (put_behind (done ++ place ∷ []) places (suc place) end (more_below done low place r.0 b) r.2 ∙ append_assoc done (place ∷ []) places)
+    ∙ (put_after (done ++ place ∷ []) places (suc place) end (more_below done low place r.0 b) r.2 ∙ append_assoc done (place ∷ []) places)
 
 -- places that rise are in order
 pub rising_in_order : (low end : ℕ) (places : List ℕ) → Rises low end places → in_order places ≡ places
-rising_in_order low end places r = put_behind [] places low end tt r
+rising_in_order low end places r = put_after [] places low end tt r

@@ -6,12 +6,12 @@ use Rattle.std.proofs.lemmas.Bool.Decides.{nat_tests}
 use Rattle.std.proofs.lemmas.List.{length-append, take_at, append-nil}
 use Rattle.source_types.specs.declared.commands.Part.TheVariants as part
 use Rattle.source_types.specs.declared.commands.Word.{Word}
-use Rattle.sdc_model.specs.Bytes.{before, behind, front, is_end, is_name_byte, is_space, leads_word}
-use Rattle.sdc_model.specs.Commands.{ArePieces, IsBare, IsBraced, IsWord, IsWordOf, StandsWord, bare_opens, ended_closed, may_follow, opening}
-use Rattle.sdc_model.specs.Continued.{behind_gap, continues, from_command, parting}
-use Rattle.sdc_model.specs.Enclosed.{Open, behind_brace, behind_open, brace}
-use Rattle.sdc_model.specs.Pieces as grammar
-use Rattle.sdc_model.specs.Row.{found, stops}
+use Rattle.text_model.specs.Bytes.{before, after, front, is_end, is_name_byte, is_space, leads_word}
+use Rattle.tcl_model.specs.Commands.{ArePieces, IsBare, IsBraced, IsWord, IsWordOf, StandsWord, bare_opens, ended_closed, may_follow, opening}
+use Rattle.text_model.specs.Continued.{after_gap, continues, from_command, parting}
+use Rattle.text_model.specs.Enclosed.{Open, after_brace, after_open, brace}
+use Rattle.tcl_model.specs.Pieces as grammar
+use Rattle.text_model.specs.Row.{found, stops}
 
 -- a letter, a digit, or one of `_ . + -`, and a space beside them
 abbrev pub is_plain : ℕ → Bool
@@ -46,10 +46,10 @@ follow_other (b ∷ bs) h = elim (cases_Bool (is_space b || is_end b)) [
       rw (p, q) refl
 ]
 
-follow_behind : (rest : List ℕ) → may_follow rest ≡ true → behind (grammar.is_itself grammar.bare) rest ≡ rest
-unfolding behind
-follow_behind [] h = refl
-follow_behind (b ∷ bs) h = elim (cases_Bool (is_space b || is_end b)) [
+follow_after : (rest : List ℕ) → may_follow rest ≡ true → after (grammar.is_itself grammar.bare) rest ≡ rest
+unfolding after
+follow_after [] h = refl
+follow_after (b ∷ bs) h = elim (cases_Bool (is_space b || is_end b)) [
   | inl p ↦ rw p refl
   | inr p ↦
       let h2 : (b == 92 && continues bs) ≡ true = rw p at h in
@@ -57,7 +57,7 @@ follow_behind (b ∷ bs) h = elim (cases_Bool (is_space b || is_end b)) [
       rw (p, q) refl
 ]
 
-continued_stops : (rest : List ℕ) → continues rest ≡ true → grammar.behind_backslash grammar.bare rest ≡ stops (Ok (92 ∷ rest))
+continued_stops : (rest : List ℕ) → continues rest ≡ true → grammar.after_backslash grammar.bare rest ≡ stops (Ok (92 ∷ rest))
 continued_stops [] h = absurd (both_ways false refl h)
 continued_stops (b ∷ bs) h = rw h refl
 
@@ -82,12 +82,12 @@ run_front test (x ∷ xs) rest h =
     let parts = and_parts (test x) (list_all test xs) h in
     rw parts.0 (ap (λ (t : List ℕ). x ∷ t) (run_front test xs rest parts.1))
 
-run_behind : (test : ℕ → Bool) (xs rest : List ℕ) → list_all test xs ≡ true → behind test (xs ++ rest) ≡ behind test rest
-unfolding behind
-run_behind test [] rest h = refl
-run_behind test (x ∷ xs) rest h =
+run_after : (test : ℕ → Bool) (xs rest : List ℕ) → list_all test xs ≡ true → after test (xs ++ rest) ≡ after test rest
+unfolding after
+run_after test [] rest h = refl
+run_after test (x ∷ xs) rest h =
     let parts = and_parts (test x) (list_all test xs) h in
-    rw parts.0 (run_behind test xs rest parts.1)
+    rw parts.0 (run_after test xs rest parts.1)
 
 -- ---- a bare word
 
@@ -116,8 +116,8 @@ plain_first b bs p = rw (p.parts, p.comment, p.backslash) refl
 newline_ends : (b : ℕ) → is_end b ≡ false → (b == 10) ≡ false
 newline_ends b p = (or_parts (b == 10) (b == 59) p).0
 
-plain_gap : (b : ℕ) (bs : List ℕ) → Plain b → behind_gap false (b ∷ bs) ≡ b ∷ bs
-unfolding behind_gap
+plain_gap : (b : ℕ) (bs : List ℕ) → Plain b → after_gap false (b ∷ bs) ≡ b ∷ bs
+unfolding after_gap
 plain_gap b bs p = let parts = or_parts (is_space b) (is_end b) p.parts in rw (parts.0, newline_ends b parts.1, p.backslash) refl
 
 plain_opening : (b : ℕ) (bs : List ℕ) → Plain b → opening (b ∷ bs) ≡ bare_opens
@@ -134,9 +134,9 @@ text_word text = record { parts = part.Text text ∷ [] }
 pub bare_run : (b : ℕ) (bs rest : List ℕ) → list_all is_plain bs ≡ true → may_follow rest ≡ true → grammar.with_run grammar.bare (b ∷ []) (bs ++ rest) ≡ found (grammar.text (b ∷ bs)) rest
 bare_run b bs rest all follows =
     let self = all_pass is_plain (grammar.is_itself grammar.bare) plain_itself bs all in
-    ap (λ (t : List ℕ). found (grammar.text (b ∷ t)) (behind (grammar.is_itself grammar.bare) (bs ++ rest)))
+    ap (λ (t : List ℕ). found (grammar.text (b ∷ t)) (after (grammar.is_itself grammar.bare) (bs ++ rest)))
     (run_front (grammar.is_itself grammar.bare) bs rest self ∙ (ap (λ (t : List ℕ). bs ++ t) (follow_other rest follows) ∙ append-nil bs))
-    ∙ ap (λ (t : List ℕ). found (grammar.text (b ∷ bs)) t) (run_behind (grammar.is_itself grammar.bare) bs rest self ∙ follow_behind rest follows)
+    ∙ ap (λ (t : List ℕ). found (grammar.text (b ∷ bs)) t) (run_after (grammar.is_itself grammar.bare) bs rest self ∙ follow_after rest follows)
 
 bare_piece : (b : ℕ) (bs rest : List ℕ) → Plain b → list_all is_plain bs ≡ true → may_follow rest ≡ true → grammar.piece_at grammar.bare (b ∷ (bs ++ rest)) ≡ found (grammar.text (b ∷ bs)) rest
 bare_piece b bs rest p all follows = plain_piece b (bs ++ rest) p ∙ bare_run b bs rest all follows
@@ -169,22 +169,22 @@ inside_byte : (b : ℕ) → is_braced b ≡ true → Inside b
 inside_byte b p = record { backslash = grind (arith, nat_tests); opens = grind (arith, nat_tests); closes = grind (arith, nat_tests) }
 
 -- a list is passed over to the brace that closes it
-inside_step : (b : ℕ) (bs : List ℕ) (outer : List Open) (begins : Bool) → Inside b → behind_open (brace ∷ outer) begins false (b ∷ bs) ≡ behind_open (brace ∷ outer) (leads_word b) false bs
-unfolding behind_open
+inside_step : (b : ℕ) (bs : List ℕ) (outer : List Open) (begins : Bool) → Inside b → after_open (brace ∷ outer) begins false (b ∷ bs) ≡ after_open (brace ∷ outer) (leads_word b) false bs
+unfolding after_open
 inside_step b bs outer begins p = rw (p.backslash, p.opens, p.closes) refl
 
-inside_close : (bs : List ℕ) (outer : List Open) (begins : Bool) → behind_open (brace ∷ outer) begins false (125 ∷ bs) ≡ behind_open outer false false bs
-unfolding behind_open
+inside_close : (bs : List ℕ) (outer : List Open) (begins : Bool) → after_open (brace ∷ outer) begins false (125 ∷ bs) ≡ after_open outer false false bs
+unfolding after_open
 inside_close bs outer begins = refl
 
-pub inside_all : (text rest : List ℕ) (outer : List Open) (begins : Bool) → list_all is_braced text ≡ true → behind_open (brace ∷ outer) begins false (text ++ 125 ∷ rest) ≡ behind_open outer false false rest
+pub inside_all : (text rest : List ℕ) (outer : List Open) (begins : Bool) → list_all is_braced text ≡ true → after_open (brace ∷ outer) begins false (text ++ 125 ∷ rest) ≡ after_open outer false false rest
 inside_all [] rest outer begins h = inside_close rest outer begins
 inside_all (b ∷ bs) rest outer begins h =
     let parts = and_parts (is_braced b) (list_all is_braced bs) h in
     inside_step b (bs ++ 125 ∷ rest) outer begins (inside_byte b parts.0) ∙ inside_all bs rest outer (leads_word b) parts.1
 
-all_closed : (rest : List ℕ) → behind_open [] false false rest ≡ Some rest
-unfolding behind_open
+all_closed : (rest : List ℕ) → after_open [] false false rest ≡ Some rest
+unfolding after_open
 all_closed rest = refl
 
 pub before_is : (text rest : List ℕ) → before (text ++ rest) rest ≡ text
@@ -196,8 +196,8 @@ braced_first : (bs : List ℕ) → from_command parting (123 ∷ bs) ≡ 123 ∷
 unfolding from_command
 braced_first bs = refl
 
-braced_gap : (bs : List ℕ) → behind_gap false (123 ∷ bs) ≡ 123 ∷ bs
-unfolding behind_gap
+braced_gap : (bs : List ℕ) → after_gap false (123 ∷ bs) ≡ 123 ∷ bs
+unfolding after_gap
 braced_gap bs = refl
 
 whole_front : (bs : List ℕ) → list_all (grammar.is_itself grammar.braced) bs ≡ true → front (grammar.is_itself grammar.braced) bs ≡ bs
@@ -207,12 +207,12 @@ whole_front (b ∷ bs) h =
     let parts = and_parts (grammar.is_itself grammar.braced b) (list_all (grammar.is_itself grammar.braced) bs) h in
     rw parts.0 (ap (λ (t : List ℕ). b ∷ t) (whole_front bs parts.1))
 
-whole_behind : (bs : List ℕ) → list_all (grammar.is_itself grammar.braced) bs ≡ true → behind (grammar.is_itself grammar.braced) bs ≡ []
-unfolding behind
-whole_behind [] h = refl
-whole_behind (b ∷ bs) h =
+whole_after : (bs : List ℕ) → list_all (grammar.is_itself grammar.braced) bs ≡ true → after (grammar.is_itself grammar.braced) bs ≡ []
+unfolding after
+whole_after [] h = refl
+whole_after (b ∷ bs) h =
     let parts = and_parts (grammar.is_itself grammar.braced b) (list_all (grammar.is_itself grammar.braced) bs) h in
-    rw parts.0 (whole_behind bs parts.1)
+    rw parts.0 (whole_after bs parts.1)
 
 first : (b : ℕ) (bs : List ℕ) → Inside b → grammar.piece_at grammar.braced (b ∷ bs) ≡ grammar.with_run grammar.braced (b ∷ []) bs
 unfolding grammar.piece_at
@@ -222,8 +222,8 @@ first b bs p = rw p.backslash refl
 inner_run : (b : ℕ) (bs : List ℕ) → list_all is_braced bs ≡ true → grammar.with_run grammar.braced (b ∷ []) bs ≡ found (grammar.text (b ∷ bs)) []
 inner_run b bs h =
     let self = all_pass is_braced (grammar.is_itself grammar.braced) braced_itself bs h in
-    ap (λ (t : List ℕ). found (grammar.text (b ∷ t)) (behind (grammar.is_itself grammar.braced) bs)) (whole_front bs self)
-    ∙ ap (λ (t : List ℕ). found (grammar.text (b ∷ bs)) t) (whole_behind bs self)
+    ap (λ (t : List ℕ). found (grammar.text (b ∷ t)) (after (grammar.is_itself grammar.braced) bs)) (whole_front bs self)
+    ∙ ap (λ (t : List ℕ). found (grammar.text (b ∷ bs)) t) (whole_after bs self)
 
 inner_piece : (b : ℕ) (bs : List ℕ) → list_all is_braced (b ∷ bs) ≡ true → grammar.piece_at grammar.braced (b ∷ bs) ≡ found (grammar.text (b ∷ bs)) []
 inner_piece b bs h =
@@ -247,7 +247,7 @@ braced_text text rest = ap (λ (t : List ℕ). 123 ∷ t) (append_assoc text (12
 
 braced_stands : (text rest : List ℕ) → list_all is_braced text ≡ true → may_follow rest ≡ true → StandsWord (123 ∷ (text ++ 125 ∷ rest)) (found (text_word text) rest)
 braced_stands text rest h follows =
-    let whole : IsBraced (text ++ 125 ∷ rest) (behind_brace (text ++ 125 ∷ rest)) (found (text_word text) rest) =
+    let whole : IsBraced (text ++ 125 ∷ rest) (after_brace (text ++ 125 ∷ rest)) (found (text_word text) rest) =
     subst (λ o. IsBraced (text ++ 125 ∷ rest) o (found (text_word text) rest)) (sym (inside_all text rest [] false h ∙ all_closed rest)) (inner_stands text rest h follows) in
     subst (λ (t : List ℕ). IsWordOf (opening t) t (found (text_word text) rest)) (sym (braced_gap (text ++ 125 ∷ rest))) whole
 

@@ -1,12 +1,13 @@
--- One more printable clock behind others.
+-- One more printable clock after others.
 use Rattle.std.proofs.Common.{◌≡◌, ℕ, false, IsTrue, List, [], ◌∷◌, ◌++◌, refl, sym, subst, append_assoc, ap, ◌∙◌}
 use Rattle.std.proofs.lemmas.List.{append-nil}
 use Rattle.timing_types.specs.declared.clocks.Clock.{Clock}
 use Rattle.timing_types.specs.declared.clocks.Wave.{Wave}
-use Rattle.sdc_model.specs.ClockFile.{is_name, is_taken, virtual_clock}
-use Rattle.sdc_model.specs.PrintedFile.{ArePrintableClocks, IsPrintableClock, IsPrintableWave}
+use Rattle.mode_model.specs.ClockFile.{is_name, is_taken, virtual_clock}
+use Rattle.mode_model.specs.PrintedFile.{ArePrintableClocks, IsPrintableClock}
+use Rattle.constraint_model.specs.ClockWaves.{IsPrintableWave}
 
--- a printable clock of a new name behind printable clocks keeps them printable
+-- a printable clock of a new name after printable clocks keeps them printable
 pub one_more : (before clocks : List Clock) (clock : Clock) → ArePrintableClocks before clocks → IsPrintableClock clock → is_taken clock.name (before ++ clocks) ≡ false → ArePrintableClocks before (clocks ++ clock ∷ [])
 one_more before [] clock a p t = (p, ap (is_taken clock.name) (sym (append-nil before)) ∙ t, tt)
 one_more before (first ∷ clocks) clock a p t = (

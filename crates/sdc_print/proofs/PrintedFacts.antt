@@ -6,10 +6,10 @@ use Rattle.sdc_base.proofs.CaseFacts.{by_bool}
 use Rattle.sdc_base.specs.Time.{time_text_of}
 use Rattle.timing_types.specs.declared.clocks.Clock.{Clock}
 use Rattle.timing_types.specs.declared.clocks.Wave.{Wave}
-use Rattle.sdc_model.specs.Bytes.{is_name_byte}
-use Rattle.sdc_model.specs.ClockFile.{is_name}
-use Rattle.sdc_model.specs.PrintedFile.{ArePrintableClocks, clock_line, clock_lines, header_lines, lines_of_form, unit_text}
-use Rattle.sdc_model.specs.PrintedLine.{bare, braced, is_bare_text, name_word, spaced}
+use Rattle.text_model.specs.Bytes.{is_name_byte}
+use Rattle.mode_model.specs.ClockFile.{is_name}
+use Rattle.mode_model.specs.PrintedFile.{ArePrintableClocks, clock_line, clock_lines, header_lines, lines_of_form, unit_text}
+use Rattle.mode_model.specs.PrintedLine.{bare, braced, is_bare_text, name_word, spaced}
 use Rattle.sdc_print.proofs.ClockLines.{line_of_form}
 use Rattle.sdc_print.proofs.FileText.{AreFineLines, IsFine, IsItem, bare_spelled, braced_spelled, item_braced, items_braced, spelled_append}
 use Rattle.sdc_print.proofs.PlainWords.{all_pass, is_plain}

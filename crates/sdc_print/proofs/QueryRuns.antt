@@ -4,19 +4,19 @@ use Rattle.source_types.specs.declared.built_ins.CommandName.TheVariants as comm
 use Rattle.source_types.specs.declared.commands.Part.TheVariants as part
 use Rattle.timing_types.specs.declared.objects.Value.{Value}
 use Rattle.timing_types.specs.declared.objects.Value.TheVariants as value
-use Rattle.sdc_model.specs.Bytes.{is_index}
-use Rattle.sdc_model.specs.ClockCommands.{in_order}
-use Rattle.sdc_model.specs.ClockFile.{SoFar}
-use Rattle.sdc_model.specs.ClockGroups.{places_of}
-use Rattle.sdc_model.specs.Commands.{AreCommands}
-use Rattle.sdc_model.specs.HostCalls.{World}
-use Rattle.sdc_model.specs.ModeHost.{answer, mode_host}
-use Rattle.sdc_model.specs.NamedCommands.{named}
-use Rattle.sdc_model.specs.PrintedCommands.{AreSpelled, command_of, word_of}
-use Rattle.sdc_model.specs.PrintedLine.{PrintedWord, bare, list_word, spaced, words_text}
-use Rattle.sdc_model.specs.ScriptRun.{Enters, RunsBracket, RunsCommand, RunsText, RunsWithin, most_commands, outermost}
-use Rattle.sdc_model.specs.Variables.{Variable}
-use Rattle.sdc_model.specs.WordValues.{Level, RunsWord}
+use Rattle.text_model.specs.Bytes.{is_index}
+use Rattle.mode_model.specs.ClockCommands.{in_order}
+use Rattle.mode_model.specs.ClockFile.{SoFar}
+use Rattle.mode_model.specs.ClockGroups.{places_of}
+use Rattle.tcl_model.specs.Commands.{AreCommands}
+use Rattle.tcl_model.specs.HostCalls.{World}
+use Rattle.mode_model.specs.ModeHost.{answer, mode_host}
+use Rattle.tcl_model.specs.NamedCommands.{named}
+use Rattle.mode_model.specs.PrintedCommands.{AreSpelled, command_of, word_of}
+use Rattle.mode_model.specs.PrintedLine.{PrintedWord, bare, list_word, spaced, words_text}
+use Rattle.tcl_model.specs.ScriptRun.{Enters, RunsBracket, RunsCommand, RunsText, RunsWithin, most_commands, outermost}
+use Rattle.tcl_model.specs.Variables.{Variable}
+use Rattle.tcl_model.specs.WordValues.{Level, RunsWord}
 use Rattle.sdc_print.proofs.CommandFacts.{words_are_command}
 use Rattle.sdc_print.proofs.FileText.{AreItems, items_braced}
 use Rattle.sdc_print.proofs.LineRuns.{call_runs, command_runs, level_at, one_command_runs, texts_run, values_of, world}

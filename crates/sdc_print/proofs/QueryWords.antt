@@ -3,23 +3,23 @@ use Rattle.std.proofs.Common.{◌≡◌, ◌++◌, ℕ, true, false, List, [], �
 use Rattle.std.specs.List.{list_all}
 use Rattle.source_types.specs.declared.commands.Part.TheVariants as part
 use Rattle.source_types.specs.declared.commands.Word.{Word}
-use Rattle.sdc_model.specs.Commands.{IsBare, IsWord, IsWordOf, StandsWord, may_follow, opening}
-use Rattle.sdc_model.specs.Continued.{behind_gap, from_command, parting}
-use Rattle.sdc_model.specs.Enclosed.{behind_bracket, behind_open, brace, bracket}
-use Rattle.sdc_model.specs.Pieces as grammar
-use Rattle.sdc_model.specs.Row.{found}
+use Rattle.tcl_model.specs.Commands.{IsBare, IsWord, IsWordOf, StandsWord, may_follow, opening}
+use Rattle.text_model.specs.Continued.{after_gap, from_command, parting}
+use Rattle.text_model.specs.Enclosed.{after_bracket, after_open, brace, bracket}
+use Rattle.tcl_model.specs.Pieces as grammar
+use Rattle.text_model.specs.Row.{found}
 use Rattle.sdc_print.proofs.PlainWords.{before_is, follow_stops, inside_all, is_braced}
 
 -- `get_clocks` and a blank
 abbrev query_front : List ℕ
 query_front = codes "get_clocks "
 
-query_passed : (rest : List ℕ) → behind_bracket (query_front ++ 123 ∷ rest) ≡ behind_open (brace ∷ (bracket ∷ [])) false false rest
-unfolding behind_open
+query_passed : (rest : List ℕ) → after_bracket (query_front ++ 123 ∷ rest) ≡ after_open (brace ∷ (bracket ∷ [])) false false rest
+unfolding after_open
 query_passed rest = refl
 
-bracket_close : (rest : List ℕ) → behind_open (bracket ∷ []) false false (93 ∷ rest) ≡ Some rest
-unfolding behind_open
+bracket_close : (rest : List ℕ) → after_open (bracket ∷ []) false false (93 ∷ rest) ≡ Some rest
+unfolding after_open
 bracket_close rest = refl
 
 -- the script of a query of names
@@ -30,12 +30,12 @@ query_text : (names rest : List ℕ) → query_script names ++ 93 ∷ rest ≡ q
 query_text names rest =
     append_assoc query_front (123 ∷ (names ++ 125 ∷ [])) (93 ∷ rest) ∙ ap (λ (t : List ℕ). query_front ++ 123 ∷ t) (append_assoc names (125 ∷ []) (93 ∷ rest))
 
-query_closes : (names rest : List ℕ) → list_all is_braced names ≡ true → behind_bracket (query_script names ++ 93 ∷ rest) ≡ Some rest
+query_closes : (names rest : List ℕ) → list_all is_braced names ≡ true → after_bracket (query_script names ++ 93 ∷ rest) ≡ Some rest
 query_closes names rest h =
-    ap behind_bracket (query_text names rest)
+    ap after_bracket (query_text names rest)
     ∙ (query_passed (names ++ 125 ∷ (93 ∷ rest)) ∙ (inside_all names (93 ∷ rest) (bracket ∷ []) false h ∙ bracket_close rest))
 
-bracket_piece : (bs : List ℕ) → grammar.piece_at grammar.bare (91 ∷ bs) ≡ grammar.behind_opening bs (behind_bracket bs)
+bracket_piece : (bs : List ℕ) → grammar.piece_at grammar.bare (91 ∷ bs) ≡ grammar.after_opening bs (after_bracket bs)
 unfolding grammar.piece_at
 bracket_piece bs = refl
 
@@ -45,11 +45,11 @@ script_word script = record { parts = part.Script script ∷ [] }
 query_piece : (names rest : List ℕ) → list_all is_braced names ≡ true → grammar.piece_at grammar.bare (91 ∷ (query_script names ++ 93 ∷ rest)) ≡ found (grammar.other (part.Script (query_script names))) rest
 query_piece names rest h =
     bracket_piece (query_script names ++ 93 ∷ rest)
-    ∙ (ap (grammar.behind_opening (query_script names ++ 93 ∷ rest)) (query_closes names rest h)
+    ∙ (ap (grammar.after_opening (query_script names ++ 93 ∷ rest)) (query_closes names rest h)
     ∙ ap (λ (t : List ℕ). found (grammar.other (part.Script t)) rest) (before_is (query_script names) (93 ∷ rest)))
 
-bracket_gap : (bs : List ℕ) → behind_gap false (91 ∷ bs) ≡ 91 ∷ bs
-unfolding behind_gap
+bracket_gap : (bs : List ℕ) → after_gap false (91 ∷ bs) ≡ 91 ∷ bs
+unfolding after_gap
 bracket_gap bs = refl
 
 bracket_first : (bs : List ℕ) → from_command parting (91 ∷ bs) ≡ 91 ∷ bs

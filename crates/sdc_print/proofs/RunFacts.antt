@@ -5,7 +5,8 @@ use Rattle.std.proofs.lemmas.Bool.Decides.{nat_tests}
 use Rattle.std.proofs.lemmas.List.{drop_all}
 use Rattle.std.proofs.Math.Seq.{drop-cons}
 use Rattle.timing_types.specs.declared.clocks.Pair.{Pair}
-use Rattle.sdc_model.specs.PrintedFile.{exclusive_to, ArePairs, IsBehind}
+use Rattle.mode_model.specs.PrintedFile.{exclusive_to}
+use Rattle.constraint_model.specs.ExclusivePairs.{ArePairs, IsAfter}
 use Rattle.sdc_print.specs.Runs.{run_length, seconds}
 
 pub run_same : (place : ℕ) (pair : Pair) (pairs : List Pair) → pair.first ≡ place → run_length place (pair ∷ pairs) ≡ suc (run_length place pairs)
@@ -46,12 +47,12 @@ pub all_from_zero : (pairs : List Pair) → AreFrom 0 pairs
 all_from_zero [] = tt
 all_from_zero (pair ∷ pairs) = (omega arith, all_from_zero pairs)
 
--- behind a pair no first place is below its own
-pub are_behind : (count : ℕ) (pair : Pair) (pairs : List Pair) (low : ℕ) → low ≤ pair.first → IsBehind pair pairs → ArePairs count pairs → AreFrom low pairs
-are_behind count pair [] low h b o = tt
-are_behind count pair (next ∷ pairs) low h b o =
+-- after a pair no first place is below its own
+pub are_after : (count : ℕ) (pair : Pair) (pairs : List Pair) (low : ℕ) → low ≤ pair.first → IsAfter pair pairs → ArePairs count pairs → AreFrom low pairs
+are_after count pair [] low h b o = tt
+are_after count pair (next ∷ pairs) low h b o =
     let n : low ≤ next.first = elim b [ inl l ↦ omega arith | inr e ↦ omega (arith, e.0) ] in
-    (n, are_behind count next pairs low n o.2 o.3)
+    (n, are_after count next pairs low n o.2 o.3)
 
 -- the clocks that are exclusive to one are the run of its pairs
 pub none_from : (place : ℕ) (pairs : List Pair) → AreFrom (suc place) pairs → exclusive_to place pairs ≡ []
@@ -78,7 +79,7 @@ takes_run count place (pair ∷ pairs) o f =
           (record { group = exclusive_same place pair pairs e ∙ ap (λ ps. pair.second ∷ ps) t.group; order = t.order; above = t.above })
       | inr n ↦
           let m : suc place ≤ pair.first = omega (arith, n, f.0) in
-          let a : AreFrom (suc place) (pair ∷ pairs) = (m, are_behind count pair pairs (suc place) m o.2 o.3) in
+          let a : AreFrom (suc place) (pair ∷ pairs) = (m, are_after count pair pairs (suc place) m o.2 o.3) in
           subst (λ k. TakesRun count place k (pair ∷ pairs)) (sym (run_other place pair pairs n))
           (record { group = none_from place (pair ∷ pairs) a; order = o; above = a })
     ]

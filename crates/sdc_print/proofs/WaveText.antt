@@ -11,10 +11,11 @@ use Rattle.sdc_base.specs.NumberLaws.{IsTimeText, ReadsBack, is_time_byte}
 use Rattle.sdc_base.specs.Time.{time_text_of}
 use Rattle.sdc_base.proofs.ReadBackFacts.{time_text_plain, time_text_reads_back}
 use Rattle.timing_types.specs.declared.clocks.Wave.{Wave}
-use Rattle.sdc_model.specs.ClockFile.{wave_given}
-use Rattle.sdc_model.specs.PrintedFile.{IsPrintableWave}
-use Rattle.sdc_model.specs.PrintedLine.{spaced}
-use Rattle.sdc_model.specs.Waveform.{nanoseconds, time_from, time_in, limited_time, wave_of, wave_within, waveform_of}
+use Rattle.mode_model.specs.ClockFile.{wave_given}
+use Rattle.constraint_model.specs.ClockWaves.{IsPrintableWave}
+use Rattle.mode_model.specs.PrintedLine.{spaced}
+use Rattle.mode_model.specs.Waveform.{nanoseconds, time_from, time_in, limited_time, wave_of, waveform_of}
+use Rattle.constraint_model.specs.ClockWaves.{wave_within}
 use Rattle.sdc_print.proofs.FileText.{AreItems, IsItem}
 use Rattle.sdc_print.proofs.ListBack.{list_spaced}
 use Rattle.sdc_print.proofs.PlainWords.{all_pass, is_plain}

@@ -1,4 +1,4 @@
--- What a sink of printed bytes is after bytes were added: the bytes behind those it has, or their number. And that a
+-- What a sink of printed bytes is after bytes were added: the bytes after those it has, or their number. And that a
 -- number passes 64 bits. Small words for this crate's private functions.
 use Rattle.std.specs.Prelude.{ℕ, ◌+◌, ◌^◌, ◌≤◌, List, ◌++◌, length}
 use Rattle.sdc_print.specs.declared.sinks.Sink.{Sink}

@@ -2,9 +2,9 @@
 use Rattle.std.specs.Prelude.{◌≡◌, ◌≤◌, length, pos, Ok}
 use Rattle.timing_types.specs.declared.designs.Design.{Design}
 use Rattle.timing_types.specs.declared.modes.Mode.{Mode}
-use Rattle.sdc_model.specs.ClockCommands.{most_file_clocks}
-use Rattle.sdc_model.specs.ModeMeaning.{SaysMode}
-use Rattle.sdc_model.specs.PrintedFile.{IsPrintable, printed_file, without_lines}
+use Rattle.mode_model.specs.ClockCommands.{most_file_clocks}
+use Rattle.mode_model.specs.ModeMeaning.{SaysMode}
+use Rattle.mode_model.specs.PrintedFile.{IsPrintable, printed_file, without_lines}
 
 -- the file of a printable mode in nanoseconds, of no more clocks than a file may have, says this mode, apart from the
 -- lines of its clocks

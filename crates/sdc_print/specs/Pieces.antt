@@ -2,8 +2,8 @@
 use Rattle.std.specs.Prelude.{ℕ, ℤ, List}
 use Rattle.timing_types.specs.declared.clocks.Form.{Form}
 use Rattle.timing_types.specs.declared.clocks.Wave.{Wave}
-use Rattle.sdc_model.specs.PrintedLine.{line_text, lines_text}
-use Rattle.sdc_model.specs.PrintedFile.{clock_line, lines_of_form}
+use Rattle.mode_model.specs.PrintedLine.{line_text, lines_text}
+use Rattle.mode_model.specs.PrintedFile.{clock_line, lines_of_form}
 
 abbrev pub clock_text : ℤ → List ℕ → Wave → List ℕ
 clock_text unit name wave = line_text (clock_line unit name wave)

@@ -1,10 +1,10 @@
--- Pairs with one first place that stand one behind the other, and the bytes of the line of each such run: small words
+-- Pairs with one first place that stand one after the other, and the bytes of the line of each such run: small words
 -- for this crate's functions.
 use Rattle.std.specs.Prelude.{ℕ, suc, ◌==◌, List, [], ◌∷◌, map, if◌then◌else◌}
 use Rattle.timing_types.specs.declared.clocks.Clock.{Clock}
 use Rattle.timing_types.specs.declared.clocks.Pair.{Pair}
-use Rattle.sdc_model.specs.PrintedLine.{lines_text, spaced}
-use Rattle.sdc_model.specs.PrintedFile.{group_lines, lines_of_group, names_at}
+use Rattle.mode_model.specs.PrintedLine.{lines_text, spaced}
+use Rattle.mode_model.specs.PrintedFile.{group_lines, lines_of_group, names_at}
 
 -- how many pairs from the front on have this first place
 unfoldable pub run_length : ℕ → List Pair → ℕ

@@ -2,15 +2,15 @@
 
 ghost use Rattle.std.specs.Prelude.{◌≡◌, OnOk, OnErr};
 ghost use Rattle.sdc_base.specs.Time.{IsUnit};
-ghost use Rattle.sdc_model.specs.PrintedLine.{lines_text};
-ghost use Rattle.sdc_model.specs.PrintedFile.{clock_lines};
+ghost use Rattle.mode_model.specs.PrintedLine.{lines_text};
+ghost use Rattle.mode_model.specs.PrintedFile.{clock_lines};
 ghost use Rattle.sdc_print.specs.Added.{added, Overflows};
 ghost use Rattle.sdc_print.specs.Pieces.{clock_text, form_text};
 
 use crate::sinks::Sink;
 use crate::word_printing::{push_name, push_time};
 use sdc_base::{List, NoMemory};
-use sdc_model::{Clock, Form, Wave};
+use timing_types::{Clock, Form, Wave};
 
 /// Adds the lines of clocks in order.
 pub fn push_clocks(out: &mut Sink, unit: i64, clocks: &List<Clock>) -> Result<(), NoMemory>

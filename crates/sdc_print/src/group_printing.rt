@@ -1,13 +1,14 @@
 //! The lines of exclusive clocks.
 
 ghost use Rattle.std.specs.Prelude.{◌≡◌, ◌^◌, ◌≤◌, IfOk, OnOk, OnErr, length, slice_get};
-ghost use Rattle.sdc_model.specs.PrintedFile.{name_of, ArePairs};
+ghost use Rattle.mode_model.specs.PrintedFile.{name_of};
+ghost use Rattle.constraint_model.specs.ExclusivePairs.{ArePairs};
 ghost use Rattle.sdc_print.specs.Added.{added, Overflows};
 ghost use Rattle.sdc_print.specs.Runs.{run_length, group_text, groups_text, second_names};
 
 use crate::sinks::{Sink, sum};
 use sdc_base::{List, NoMemory};
-use sdc_model::{Clock, Pair};
+use timing_types::{Clock, Pair};
 
 /// Adds the line of each clock with later exclusive clocks: the clock, and all of these. The pairs are in order.
 pub fn push_groups(out: &mut Sink, clocks: &List<Clock>, pairs: &List<Pair>) -> Result<(), NoMemory>

@@ -2,7 +2,7 @@
 //!
 //! It gives the layer above `print`, the bytes of the file, `printed_length`, their number without making them, and
 //! `length_with_group`, that of a front and one line of exclusive clocks. All run the same code, into a `Sink` that
-//! keeps the bytes or counts them. How each line looks is defined in `sdc_model`. It leaves reading the file back to
+//! keeps the bytes or counts them. How each line looks is defined in `mode_model`. It leaves reading the file back to
 //! the crates that read, and writing it to the caller.
 #![tactic(auto)]
 
@@ -10,12 +10,8 @@ mod clock_printing;
 mod file_law;
 mod group_printing;
 mod line_laws;
-#[cfg(test)]
-mod printable_modes;
 mod printing;
 mod sinks;
-#[cfg(test)]
-mod tests;
 mod word_printing;
 
 pub use file_law::printed_files_read_back;

@@ -1,8 +1,8 @@
 //! What is true of every printed line, whatever it says.
 
 ghost use Rattle.std.specs.Prelude.{List};
-ghost use Rattle.sdc_model.specs.PrintedLine.{PrintedWord};
-ghost use Rattle.sdc_model.specs.PrintedCommands.{LineIsFirst, LinesAreCommands};
+ghost use Rattle.mode_model.specs.PrintedLine.{PrintedWord};
+ghost use Rattle.mode_model.specs.PrintedCommands.{LineIsFirst, LinesAreCommands};
 
 /// A line of words that the grammar has, each as it is spelled, is one command of these words, and lines of such
 /// words are the commands of their text.

@@ -2,8 +2,8 @@
 
 ghost use Rattle.std.specs.Prelude.{◌≡◌, ◌+◌, ◌^◌, ◌≤◌, IfOk, OnOk, OnErr, length};
 ghost use Rattle.sdc_base.specs.Time.{IsUnit};
-ghost use Rattle.sdc_model.specs.PrintedLine.{lines_text};
-ghost use Rattle.sdc_model.specs.PrintedFile.{IsPrintable, header_lines, printed_file, unit_text};
+ghost use Rattle.mode_model.specs.PrintedLine.{lines_text};
+ghost use Rattle.mode_model.specs.PrintedFile.{IsPrintable, header_lines, printed_file, unit_text};
 ghost use Rattle.sdc_print.specs.Added.{added, Overflows};
 ghost use Rattle.sdc_print.specs.Runs.{group_text};
 
@@ -11,8 +11,8 @@ use crate::clock_printing::push_clocks;
 use crate::group_printing::{push_group, push_groups};
 use crate::sinks::Sink;
 use sdc_base::{List, NoMemory};
-use sdc_model::{Clock, Design, Mode, Pair};
 use std::alloc::Global;
+use timing_types::{Clock, Design, Mode, Pair};
 
 /// The constraint file (SDC 2.1) that gives a mode over a design, with times in the design's unit: the header, the
 /// clocks in order, and the groups of exclusive clocks. The one error is want of memory.
@@ -43,7 +43,7 @@ pub fn printed_length(design: &Design, mode: &Mode) -> Result<u64, NoMemory>
     }
 }
 
-/// The number of bytes of a front, and of the line behind it that makes a clock and the second ones of some pairs
+/// The number of bytes of a front, and of the line after it that makes a clock and the second ones of some pairs
 /// exclusive. The line is not made, and there is none where there are no pairs. The file of a mode is that of its
 /// clocks alone, then such a line for each clock, with the pairs of which it is the first. No memory is taken: the
 /// one error, want of memory, is the answer where the number passes 64 bits, and nowhere else.
@@ -90,7 +90,7 @@ fn push_header(out: &mut Sink, unit: i64) -> Result<(), NoMemory>
 }
 
 /// A unit in femtoseconds as SDC names it.
-#[tactic(auto, unfolding(sdc_model::specs::PrintedFile::unit_text))]
+#[tactic(auto, unfolding(mode_model::specs::PrintedFile::unit_text))]
 fn unit_name(unit: i64) -> &'static str
     ensures { result.now ≡ unit_text unit }
 {

@@ -3,7 +3,7 @@
 ghost use Rattle.std.specs.Prelude.{◌≡◌, OnOk, OnErr};
 ghost use Rattle.std.specs.List.{list_all};
 ghost use Rattle.sdc_base.specs.Time.{IsUnit, time_text_of};
-ghost use Rattle.sdc_model.specs.PrintedLine.{is_bare_byte, is_bare_text, spelled, name_word};
+ghost use Rattle.mode_model.specs.PrintedLine.{is_bare_byte, is_bare_text, spelled, name_word};
 ghost use Rattle.sdc_print.specs.Added.{added, Overflows};
 
 use crate::sinks::Sink;

@@ -2,7 +2,7 @@
 
 use crate::runs::{NO_FAILS, Outcome, outcome_of};
 use sdc_cli::Status;
-use sdc_model::{Fault, Kind, SdcKind};
+use source_types::{Fault, Kind, SdcKind};
 use std::alloc::Global;
 use std::process::Abort;
 use std::test::Fail;
@@ -26,23 +26,19 @@ fn fault(file: u32, kind: Kind) -> Status {
     })
 }
 
-/// The same status, on any line.
-fn on_any_line(status: Status) -> Status {
-    match status {
-        Status::Source(
-            Fault {
-                file,
-                line: _,
-                kind,
-            },
-        ) => fault(file, kind),
-        other => other,
+/// Whether two answers are the same, but for the line of a fault.
+fn is_on_any_line(answer: &Status, wanted: &Status) -> bool {
+    match (answer, wanted) {
+        (Status::Source(fault), Status::Source(other)) => {
+            fault.file == other.file && fault.kind == other.kind
+        }
+        _ => answer == wanted,
     }
 }
 
 /// Whether a run ended with this answer, and wrote nothing but its line.
 pub fn has_stopped(outcome: &Outcome, status: Status) -> bool {
-    on_any_line(outcome.status) == status && has_no_output(outcome)
+    is_on_any_line(&outcome.status, &status) && has_no_output(outcome)
 }
 
 /// Whether nothing is written to the merged file and the report, and the file was not made.

@@ -153,7 +153,7 @@ fn wrong_command_lines(rt: HostRuntime) -> Result<(), Fail> {
     Ok(())
 }
 
-/// Words behind `--` and those that look like options and are none, with the file that they name.
+/// Words after `--` and those that look like options and are none, with the file that they name.
 static NAMES: [(&str, &str); 5] = [
     ("edges -- -x", "-x"),
     ("edges -", "-"),

@@ -58,7 +58,7 @@ static GROUPS: [&str; 4] = [
     "set sdc_version 2.1\nset_units -time 1ns\n",
 ];
 
-/// Sees that the report of two clocks is the same with these lines behind them.
+/// Sees that the report of two clocks is the same with these lines after them.
 fn plays_no_part(rt: &impl Abort, alloc: Global, lines: &str) -> Result<(), Fail> {
     let text = format!(in alloc; "{TWO_CLOCKS}{lines}")?;
     let files = [("a.sdc", text.as_str())];

@@ -110,7 +110,7 @@ fn places_of_refused_modes(rt: HostRuntime) -> Result<(), Fail> {
     Ok(())
 }
 
-/// Words, and the place of the first file that is missing, before or behind one that is refused.
+/// Words, and the place of the first file that is missing, before or after one that is refused.
 static PLACES_OF_MISSING: [(&str, u32); 3] = [
     ("merge - - - o missing bad", 5),
     ("merge - - - o m1.sdc missing", 6),
@@ -125,7 +125,7 @@ fn places_of_missing_modes(rt: HostRuntime) -> Result<(), Fail> {
     Ok(())
 }
 
-// 16,384 clocks are read, as the missing file behind them shows; one more is too many.
+// 16,384 clocks are read, as the missing file after them shows; one more is too many.
 #[test]
 fn clocks_of_all_modes(rt: HostRuntime) -> Result<(), Fail> {
     let most = equal_clocks(rt.alloc(), 16_384)?;

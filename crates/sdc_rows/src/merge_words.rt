@@ -50,7 +50,7 @@ fn wrong_command_lines_of_merge(rt: HostRuntime) -> Result<(), Fail> {
 
 static EMPTY_FILES: [(&str, &str); 4] = [("m", ""), ("--", ""), ("--tags", ""), ("5", "")];
 
-/// Where the option may stand, and the words behind `--`, which are arguments; with the name of the merged file.
+/// Where the option may stand, and the words after `--`, which are arguments; with the name of the merged file.
 static OPTIONS: [(&str, &str); 18] = [
     ("merge - - - o m m m m m m m m m m m m m m m m", "o"),
     ("merge --tags 1 - - - o m", "o"),

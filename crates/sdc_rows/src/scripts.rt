@@ -87,7 +87,7 @@ fn nested(alloc: Global, depth: usize) -> Result<String, NoMemory> {
     Ok(format!(in alloc; "list {}1{}", opened.as_str(), closed.as_str())?)
 }
 
-// 100 levels are run, as the missing file behind them shows; 101 are too deep.
+// 100 levels are run, as the missing file after them shows; 101 are too deep.
 #[test]
 fn a_hundred_levels(rt: HostRuntime) -> Result<(), Fail> {
     let most = nested(rt.alloc(), 100)?;

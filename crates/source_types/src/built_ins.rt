@@ -3,7 +3,7 @@
 use sdc_base::{List, Text};
 
 /// A command by its name.
-#[derive(Clone, Copy, Debug, PartialEq, Eq)]
+#[derive(Clone, Copy)]
 pub enum CommandName {
     Set,
     List,
@@ -18,14 +18,14 @@ pub enum CommandName {
 }
 
 /// A condition, and the body that is run where it holds.
-#[derive(Debug, Drop)]
+#[derive(Drop)]
 pub struct Branch {
     pub condition: Text,
     pub body: Text,
 }
 
 /// The branches of an `if` in order, and the body that is run where none of them holds.
-#[derive(Debug, Drop)]
+#[derive(Drop)]
 pub struct Branches {
     pub branches: List<Branch>,
     pub otherwise: Option<Text>,

@@ -4,7 +4,7 @@ use sdc_base::{Duplicate, List, NoMemory, Text};
 use std::alloc::Global;
 
 /// A part of a word.
-#[derive(Debug, Drop, PartialEq, Eq)]
+#[derive(Drop)]
 pub enum Part {
     /// Bytes that stand for themselves.
     Text(Text),
@@ -33,8 +33,8 @@ impl Duplicate for Part {
     }
 }
 
-/// A word: its parts, one behind the other.
-#[derive(Debug, Drop, PartialEq, Eq)]
+/// A word: its parts, one after the other.
+#[derive(Drop)]
 pub struct Word {
     pub parts: List<Part>,
 }
@@ -47,7 +47,7 @@ impl Duplicate for Word {
 }
 
 /// A command: its words, the name first, and the line of its first word.
-#[derive(Debug, Drop, PartialEq, Eq)]
+#[derive(Drop)]
 pub struct Command {
     pub line: u32,
     pub words: List<Word>,
@@ -64,7 +64,7 @@ impl Duplicate for Command {
 }
 
 /// A command, where its text ends in bytes, and the line there.
-#[derive(Debug, Drop, PartialEq, Eq)]
+#[derive(Drop)]
 pub struct Next {
     pub command: Command,
     pub end: usize,

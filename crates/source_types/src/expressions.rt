@@ -4,7 +4,7 @@ use crate::commands::Word;
 use sdc_base::{Fixed, List, NumberError, Text};
 
 /// An operator before one operand.
-#[derive(Clone, Copy, Debug, PartialEq, Eq)]
+#[derive(Clone, Copy, Debug)]
 pub enum UnaryOperator {
     /// `+`
     Plus,
@@ -15,7 +15,7 @@ pub enum UnaryOperator {
 }
 
 /// An operator between two operands, the weakest first.
-#[derive(Clone, Copy, Debug, PartialEq, Eq)]
+#[derive(Clone, Copy, Debug)]
 pub enum BinaryOperator {
     /// `||`
     Or,
@@ -50,7 +50,7 @@ pub enum BinaryOperator {
 }
 
 /// A token of an expression.
-#[derive(Debug, Drop)]
+#[derive(Drop)]
 pub enum ExpressionToken {
     /// A number without a sign, or that it is out of range.
     Number(Result<Fixed, NumberError>),
@@ -67,7 +67,7 @@ pub enum ExpressionToken {
 }
 
 /// A step of a parsed expression. Each takes the last values from those so far, and gives one.
-#[derive(Debug, Drop)]
+#[derive(Drop)]
 pub enum ExpressionStep {
     /// A number, or the fault that it is out of range.
     Number(Result<Fixed, NumberError>),
@@ -75,23 +75,23 @@ pub enum ExpressionStep {
     Word(Word, usize),
     /// An operator on the last value.
     Unary(UnaryOperator),
-    /// `&&` or `||` behind its left side: where the last value decides, it is the truth, and the steps of the right
+    /// `&&` or `||` after its left side: where the last value decides, it is the truth, and the steps of the right
     /// side are passed over, the operator with them. Else it stays.
     Decide(BinaryOperator),
     /// An operator on the last two values.
     Binary(BinaryOperator),
 }
 
-/// A parsed expression: its steps in order, each operator behind its operands, and the greatest number of
+/// A parsed expression: its steps in order, each operator after its operands, and the greatest number of
 /// parentheses that stand inside each other.
-#[derive(Debug, Drop)]
+#[derive(Drop)]
 pub struct Expression {
     pub steps: List<ExpressionStep>,
     pub levels: usize,
 }
 
 /// A value of an expression: a number, or a text, which may have the form of a number.
-#[derive(Debug, Drop, PartialEq, Eq)]
+#[derive(Drop)]
 pub enum Scalar {
     Number(Fixed),
     Text(Text),

@@ -1,10 +1,10 @@
 //! What is read of the text of a cell's function, from its front to a place in it (Liberty, `function`).
 
-use crate::functions::Expr;
+use pin_types::Expr;
 use sdc_base::List;
 
 /// What a byte of a function's text is.
-#[derive(Clone, Copy, Debug, PartialEq, Eq)]
+#[derive(Clone, Copy)]
 pub enum Sign {
     /// A space, a tab, a newline or a carriage return.
     Blank,
@@ -27,7 +27,7 @@ pub enum Sign {
 }
 
 /// The operand that stands at a place of a function's text.
-#[derive(Debug, Drop)]
+#[derive(Drop)]
 pub enum Operand {
     /// None yet: one is due.
     Due,
@@ -35,13 +35,13 @@ pub enum Operand {
     Word(List<u8>),
     /// One that ends right here.
     Stands(Expr),
-    /// One, with blanks behind it.
+    /// One, with blanks after it.
     Apart(Expr),
 }
 
 /// What stands before an operand in its pair of parentheses: the left sides of operators that still want their
 /// right one, and the `!` of the operand.
-#[derive(Debug, Drop)]
+#[derive(Drop)]
 pub struct Pending {
     /// What an or has on its left.
     pub sum: Option<Expr>,

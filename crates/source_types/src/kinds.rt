@@ -1,6 +1,7 @@
 //! The kinds of fault of a source, and a fault with its place.
 
-use crate::fault_kinds::{DesignKind, ModeKind, VerilogKind};
+use crate::fault_kinds::{DesignKind, VerilogKind};
+use pin_types::ModeKind;
 use sdc_base::{Duplicate, NoMemory, NumberError};
 use std::alloc::Global;
 use thiserror::Error;
@@ -11,7 +12,7 @@ pub enum TclKind {
     /// A brace, quote or bracket without its end.
     #[error("a brace, quote or bracket has no end")]
     Unclosed,
-    /// Text right behind a closing brace or quote.
+    /// Text right after a closing brace or quote.
     #[error("text stands right behind a closing brace or quote")]
     ExtraAfterBrace,
     /// A word that cannot be read.

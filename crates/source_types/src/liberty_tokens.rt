@@ -1,7 +1,7 @@
 //! The kinds of token of a library's text, and what its grammar is made of (Liberty).
 
 /// What parts a token from the one before it.
-#[derive(Clone, Copy, Debug, PartialEq, Eq)]
+#[derive(Clone, Copy)]
 pub enum Gap {
     /// Nothing.
     Nothing,
@@ -12,7 +12,7 @@ pub enum Gap {
 }
 
 /// A kind of token.
-#[derive(Clone, Copy, Debug, PartialEq, Eq)]
+#[derive(Clone, Copy)]
 pub enum LibertyToken {
     /// The name or number `library`.
     Library(Gap),
@@ -39,7 +39,7 @@ pub enum LibertyToken {
 }
 
 /// What the right sides of the grammar are made of.
-#[derive(Clone, Copy, Debug, PartialEq, Eq)]
+#[derive(Clone, Copy)]
 pub enum LibertySymbol {
     /// A whole text: `library` groups, one or more.
     Libraries,
@@ -47,26 +47,26 @@ pub enum LibertySymbol {
     MoreLibraries,
     /// `(`
     Parenthesis,
-    /// Behind `(`: arguments, and `)`.
+    /// After `(`: arguments, and `)`.
     Arguments,
-    /// Behind a comma: an argument, and those behind it.
+    /// After a comma: an argument, and those after it.
     Argument,
-    /// Behind an argument: further ones, and `)`.
+    /// After an argument: further ones, and `)`.
     MoreArguments,
     /// `{`
     Brace,
     /// Groups and attributes in a group.
     Statements,
-    /// Behind the name of a group or attribute: what stands in its parentheses or behind its colon, and what
+    /// After the name of a group or attribute: what stands in its parentheses or after its colon, and what
     /// follows it in its group.
-    BehindName,
-    /// Behind `)` of arguments: the braces of a group, or the end of a complex attribute.
-    BehindArguments,
-    /// Behind the colon of a simple attribute.
+    AfterName,
+    /// After `)` of arguments: the braces of a group, or the end of a complex attribute.
+    AfterArguments,
+    /// After the colon of a simple attribute.
     Value,
     /// More of an expression.
     Operands,
-    /// Behind `(` in an expression.
+    /// After `(` in an expression.
     Enclosed,
     /// The end of an attribute, and what follows it in its group.
     AttributeEnd,

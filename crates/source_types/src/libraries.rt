@@ -1,11 +1,11 @@
 //! A library of cells (Liberty).
 
-use crate::library_cells::LibCell;
+use pin_types::LibCell;
 use sdc_base::{Duplicate, List, NoMemory};
 use std::alloc::Global;
 
 /// A library: its time unit in femtoseconds, and its cells.
-#[derive(Debug, Drop)]
+#[derive(Drop)]
 pub struct Library {
     pub unit: i64,
     pub cells: List<LibCell>,

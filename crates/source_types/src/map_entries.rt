@@ -4,7 +4,7 @@ use sdc_base::{Duplicate, NoMemory, Text};
 use std::alloc::Global;
 
 /// A clock of a file, by name, and the name of the merged clock that it is.
-#[derive(Debug, Drop, PartialEq, Eq)]
+#[derive(Drop)]
 pub struct MapEntry {
     pub file: Text,
     pub clock: Text,

@@ -1,12 +1,11 @@
 //! Modules of a netlist (IEEE 1364-2005), in the part of the language that is read here.
 
-use crate::copies::both;
-use crate::library_cells::Direction;
+use pin_types::{Direction, both};
 use sdc_base::{Duplicate, List, NoMemory, Text};
 use std::alloc::Global;
 
 /// The range of a vector, as it is written: from the left bit to the right one.
-#[derive(Clone, Copy, Debug, PartialEq, Eq)]
+#[derive(Clone, Copy)]
 pub struct Range {
     pub left: u32,
     pub right: u32,
@@ -19,7 +18,7 @@ impl Duplicate for Range {
 }
 
 /// A port of a module.
-#[derive(Debug, Drop, PartialEq, Eq)]
+#[derive(Drop)]
 pub struct Port {
     pub name: Text,
     pub direction: Direction,
@@ -38,7 +37,7 @@ impl Duplicate for Port {
 }
 
 /// A net of a module, with the value that it is tied to where it is a supply.
-#[derive(Debug, Drop, PartialEq, Eq)]
+#[derive(Drop)]
 pub struct Wire {
     pub name: Text,
     pub range: Option<Range>,
@@ -57,14 +56,14 @@ impl Duplicate for Wire {
 }
 
 /// A bit of a connection: of a net, or a constant, which has no value where it is `x` or `z`.
-#[derive(Debug, Drop, PartialEq, Eq)]
+#[derive(Drop)]
 pub enum Bit {
     Net { name: Text, index: Option<u32> },
     Constant(Option<bool>),
 }
 
 /// A named connection of an instance, its bits from the leftmost on.
-#[derive(Debug, Drop, PartialEq, Eq)]
+#[derive(Drop)]
 pub struct Link {
     pub port: Text,
     pub bits: List<Bit>,
@@ -79,14 +78,14 @@ impl Duplicate for Link {
 }
 
 /// The connections of an instance, by order or by name. A connection without bits is empty.
-#[derive(Debug, Drop, PartialEq, Eq)]
+#[derive(Drop)]
 pub enum Links {
     Ordered(List<List<Bit>>),
     Named(List<Link>),
 }
 
 /// An instance of a module or a library cell.
-#[derive(Debug, Drop, PartialEq, Eq)]
+#[derive(Drop)]
 pub struct Instance {
     pub line: u32,
     pub kind: Text,
@@ -109,7 +108,7 @@ impl Duplicate for Instance {
 }
 
 /// An `assign`: the bits on its left are driven by those on its right.
-#[derive(Debug, Drop, PartialEq, Eq)]
+#[derive(Drop)]
 pub struct Assign {
     pub left: List<Bit>,
     pub right: List<Bit>,
@@ -124,7 +123,7 @@ impl Duplicate for Assign {
 }
 
 /// A module. Its nets begin with its ports, in order.
-#[derive(Debug, Drop, PartialEq, Eq)]
+#[derive(Drop)]
 pub struct Module {
     pub name: Text,
     pub line: u32,

@@ -2,7 +2,7 @@
 
 /// The kinds of token that the grammar tells apart. What stands in a wrong place by what stood before it has a kind
 /// of its own.
-#[derive(Clone, Copy, Debug, PartialEq, Eq)]
+#[derive(Clone, Copy)]
 pub enum VerilogToken {
     Module,
     EndModule,
@@ -26,7 +26,7 @@ pub enum VerilogToken {
     LargeNumber,
     /// The base of a constant.
     Base,
-    /// The digits of a constant, behind their base.
+    /// The digits of a constant, after their base.
     Digits,
     Open,
     Close,
@@ -34,7 +34,7 @@ pub enum VerilogToken {
     CloseBracket,
     OpenBrace,
     CloseBrace,
-    /// An opening brace behind 100 that are open.
+    /// An opening brace after 100 that are open.
     DeepBrace,
     Comma,
     Colon,
@@ -46,32 +46,32 @@ pub enum VerilogToken {
 }
 
 /// The symbols of the grammar: tokens, and what is made of them.
-#[derive(Clone, Copy, Debug, PartialEq, Eq)]
+#[derive(Clone, Copy)]
 pub enum VerilogSymbol {
     Token(VerilogToken),
     /// Modules.
     Source,
-    /// A module behind its name.
+    /// A module after its name.
     Header,
-    /// The ports of a header, behind the parenthesis, with all that follows in the module.
+    /// The ports of a header, after the parenthesis, with all that follows in the module.
     Ports,
     /// More names of a list of ports, with all that follows in the module.
     ListedPorts,
-    /// A declared port of a header behind its direction, with all that follows in the module.
+    /// A declared port of a header after its direction, with all that follows in the module.
     DeclaredPort,
-    /// The same behind the kind of its net.
+    /// The same after the kind of its net.
     NamedPort,
     /// More declared ports, with all that follows in the module.
     DeclaredPorts,
-    /// A declared port behind a comma, with a direction of its own or that of the port before it.
+    /// A declared port after a comma, with a direction of its own or that of the port before it.
     NextPort,
     /// Statements of a module up to its end.
     Statements,
     /// The same, port declarations among them.
     PortStatements,
-    /// A declaration of nets behind its keyword.
+    /// A declaration of nets after its keyword.
     Declaration,
-    /// A declaration of ports behind its direction.
+    /// A declaration of ports after its direction.
     PortDeclaration,
     /// More names of a declaration up to its semicolon.
     Names,
@@ -95,7 +95,7 @@ pub enum VerilogSymbol {
     Parts,
     /// More instances of a statement up to its semicolon.
     Instances,
-    /// The connections of an instance, behind the parenthesis.
+    /// The connections of an instance, after the parenthesis.
     Connections,
     /// What is connected, or nothing.
     Connected,

@@ -1,4 +1,4 @@
--- Commands that are run one after the other: whatever those behind give, all give.
+-- Commands that are run one after the other: whatever those after give, all give.
 use Rattle.std.proofs.Common.{◌≡◌, ◌<◌, ◌-◌, ℕ, zero, suc, List, [], ◌∷◌, Option, Some, None, Result, Ok, Err, refl, sym, ap, subst, arith}
 use Rattle.sdc_base.specs.declared.memory.At.{At}
 use Rattle.sdc_base.specs.Gives.{Meets}
@@ -9,39 +9,39 @@ use Rattle.source_types.specs.declared.kinds.Kind.{Kind}
 use Rattle.source_types.specs.declared.kinds.Kind.TheVariants.{Tcl}
 use Rattle.source_types.specs.declared.kinds.TclKind.{TclKind}
 use Rattle.timing_types.specs.declared.objects.Value.{Value}
-use Rattle.sdc_model.specs.BuiltIns.{no_text}
-use Rattle.sdc_model.specs.Commands.{Place, StandsCommand}
-use Rattle.sdc_model.specs.ExpressionRun.{Turn}
-use Rattle.sdc_model.specs.HostCalls.{Host, World}
-use Rattle.sdc_model.specs.Row.{found, stops}
-use Rattle.sdc_model.specs.ScriptRun.{Enters, Runs, RunsCommand, RunsCommands, RunsWithin, Told, outermost, told_at}
-use Rattle.sdc_model.specs.WordValues.{Level, in_body}
+use Rattle.tcl_model.specs.BuiltIns.{no_text}
+use Rattle.tcl_model.specs.Commands.{Place, StandsCommand}
+use Rattle.tcl_model.specs.ExpressionRun.{RunStep}
+use Rattle.tcl_model.specs.HostCalls.{Host, World}
+use Rattle.text_model.specs.Row.{found, stops}
+use Rattle.tcl_model.specs.ScriptRun.{Enters, Runs, RunsCommand, RunsCommands, RunsWithin, Contents, outermost, told_at}
+use Rattle.tcl_model.specs.WordValues.{Level, in_body}
 use Rattle.tcl_eval.specs.declared.progress.Level as progress
 use Rattle.tcl_eval.specs.declared.progress.Progress.{Progress}
 use Rattle.tcl_eval.specs.ScriptReads.{CommandOutside, CommandWithin, RunsOutside, beginning}
 use Rattle.tcl_eval.specs.Worlds.{Does, level_of, outside_answer, world}
 
--- whatever is told behind a place, is told from the beginning on
-abbrev pub RunsOn : {State : Type 0} → (Command → Turn (World State) Value) → Place → Value → World State → Place → Value → World State → Type 0
-RunsOn {State = S} Step first none start place last now = (commands : List Command) (told : Told) (after : World S)
+-- whatever is told after a place, is told from the beginning on
+abbrev pub RunsOn : {State : Type 0} → (Command → RunStep (World State) Value) → Place → Value → World State → Place → Value → World State → Type 0
+RunsOn {State = S} Step first none start place last now = (commands : List Command) (told : Contents) (after : World S)
     → RunsCommands Step commands place last now told after → (all : List Command) × RunsCommands Step all first none start told after
 
-pub begun : {State : Type 0} (Step : Command → Turn (World State) Value) (place : Place) (last : Value) (now : World State) → RunsOn Step place last now place last now
+pub begun : {State : Type 0} (Step : Command → RunStep (World State) Value) (place : Place) (last : Value) (now : World State) → RunsOn Step place last now place last now
 begun Step place last now = λ commands told after h. (commands, h)
 
-pub one_run : {State : Type 0} (Step : Command → Turn (World State) Value) (first : Place) (none : Value) (start : World State) (place : Place) (last : Value) (now : World State) (command : Command) (next : Place) (v : Value) (after : World State)
+pub one_run : {State : Type 0} (Step : Command → RunStep (World State) Value) (first : Place) (none : Value) (start : World State) (place : Place) (last : Value) (now : World State) (command : Command) (next : Place) (v : Value) (after : World State)
     → RunsOn Step first none start place last now → StandsCommand place (found command next) → Step command now (Ok v) after → RunsOn Step first none start next v after
 one_run Step first none start place last now command next v after on stands ran = λ commands told end h. on (command ∷ commands) told end (next, stands, (Ok v, after, ran, h))
 
-pub all_run : {State : Type 0} (Step : Command → Turn (World State) Value) (first : Place) (none : Value) (start : World State) (place : Place) (last : Value) (now : World State)
+pub all_run : {State : Type 0} (Step : Command → RunStep (World State) Value) (first : Place) (none : Value) (start : World State) (place : Place) (last : Value) (now : World State)
     → RunsOn Step first none start place last now → StandsCommand place (stops None) → (all : List Command) × RunsCommands Step all first none start (Ok last) now
 all_run Step first none start place last now on stands = on [] (Ok last) now (None, stands, refl, refl)
 
-pub one_refused : {State : Type 0} (Step : Command → Turn (World State) Value) (first : Place) (none : Value) (start : World State) (place : Place) (last : Value) (now : World State) (command : Command) (next : Place) (kind : Kind) (after : World State)
+pub one_refused : {State : Type 0} (Step : Command → RunStep (World State) Value) (first : Place) (none : Value) (start : World State) (place : Place) (last : Value) (now : World State) (command : Command) (next : Place) (kind : Kind) (after : World State)
     → RunsOn Step first none start place last now → StandsCommand place (found command next) → Step command now (Err kind) after → (all : List Command) × RunsCommands Step all first none start (told_at command.line kind) after
 one_refused Step first none start place last now command next kind after on stands ran = on (command ∷ []) (told_at command.line kind) after (next, stands, (Err kind, after, ran, (refl, refl, refl)))
 
-pub none_read : {State : Type 0} (Step : Command → Turn (World State) Value) (first : Place) (none : Value) (start : World State) (place : Place) (last : Value) (now : World State) (fault : At TclKind)
+pub none_read : {State : Type 0} (Step : Command → RunStep (World State) Value) (first : Place) (none : Value) (start : World State) (place : Place) (last : Value) (now : World State) (fault : At TclKind)
     → RunsOn Step first none start place last now → StandsCommand place (stops (Some fault)) → (all : List Command) × RunsCommands Step all first none start (told_at fault.line (Tcl fault.kind)) now
 none_read Step first none start place last now fault on stands = on [] (told_at fault.line (Tcl fault.kind)) now (Some fault, stands, refl, refl)
 
@@ -84,7 +84,7 @@ body_unread host line left inner script start place next last now stop.NoMemory 
 
 -- ---- a script
 
-abbrev pub Outside : {State : Type 0} → Host State → Command → Turn (World State) Value
+abbrev pub Outside : {State : Type 0} → Host State → Command → RunStep (World State) Value
 Outside host command = RunsCommand (outermost host command.line) command
 
 outside_level : {State : Type 0} (host : Host State) (line left : ℕ) (level : progress.Level) → level.line ≡ line → level.left ≡ left → level_of host level ≡ level_at host line left

@@ -9,7 +9,7 @@ use Rattle.source_types.specs.declared.expressions.ExpressionToken.TheVariants a
 use Rattle.source_types.specs.declared.expressions.UnaryOperator.{UnaryOperator}
 use Rattle.tcl_eval.specs.declared.waiting.Waiting.{Waiting}
 use Rattle.tcl_eval.specs.declared.waiting.Waiting.TheVariants as waiting
-use Rattle.sdc_model.specs.ExpressionForm.{IsGrouped, Tree, binary, binding, spelling, tightness, unary, unary_binding, unary_token}
+use Rattle.tcl_model.specs.ExpressionForm.{IsGrouped, Tree, binary, binding, spelling, tightness, unary, unary_binding, unary_token}
 use Rattle.tcl_eval.specs.ExpressionReading.{settled}
 use Rattle.tcl_eval.proofs.ReadTrees.{Accepts, binding_low}
 
@@ -48,7 +48,7 @@ accepts_tight (waiting.Binary op ∷ ws) = binding_low op
 
 -- ---- what is done becomes a tree
 
--- what stands behind these frames, when all is done that binds so tightly
+-- what stands after these frames, when all is done that binds so tightly
 pub record Reduced (b : ℕ) (fs : List Frame) (t : Tree) (ws : List Waiting) : Type 0 where
   pub frames : List Frame
   pub tree : Tree

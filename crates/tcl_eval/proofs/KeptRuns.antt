@@ -15,21 +15,21 @@ use Rattle.source_types.specs.declared.kinds.Kind.{Kind}
 use Rattle.source_types.specs.declared.kinds.TclKind.{TclKind}
 use Rattle.timing_types.specs.declared.objects.Value.{Value}
 use Rattle.timing_types.specs.declared.objects.Value.TheVariants as value
-use Rattle.sdc_model.specs.Branches.{branches_of}
-use Rattle.sdc_model.specs.BuiltIns.{HasItems}
-use Rattle.sdc_model.specs.Bytes.{is_index}
-use Rattle.sdc_model.specs.Commands.{Place}
-use Rattle.sdc_model.specs.ExpressionForm.{Tree, binary, number, parentheses, unary, word}
-use Rattle.sdc_model.specs.ExpressionRun.{Evaluates, GoesOn, RunsExpression, RunsRight, RunsTree, Turn}
-use Rattle.sdc_model.specs.ExpressionValue.{decided}
-use Rattle.sdc_model.specs.HostCalls.{Answered, AsText, Calls, Host, SetsTo, World, text_in}
-use Rattle.sdc_model.specs.NamedCommands.{Chooses, EvaluatesText, Holds, ReadsWord, Repeats, RunsEach, RunsFirst, RunsNamed, RunsOtherwise, RunsValues, Sets, named, spaced}
-use Rattle.sdc_model.specs.ScriptRun.{Enters, GoesOnBehind, Runs, RunsBracket, RunsCommand, RunsCommands, RunsOpened, RunsText, RunsWithin, Told, most_levels, one_more, outermost}
-use Rattle.sdc_model.specs.Turns.{Answers, Chosen, Looks, OnWith, Then}
-use Rattle.sdc_model.specs.WordValues.{Level, Opened, RunsJoined, RunsPart, RunsParts, RunsWord, RunsWords, in_body, in_bracket}
+use Rattle.tcl_model.specs.Branches.{branches_of}
+use Rattle.tcl_model.specs.BuiltIns.{HasItems}
+use Rattle.text_model.specs.Bytes.{is_index}
+use Rattle.tcl_model.specs.Commands.{Place}
+use Rattle.tcl_model.specs.ExpressionForm.{Tree, binary, number, parentheses, unary, word}
+use Rattle.tcl_model.specs.ExpressionRun.{Evaluates, GoesOn, RunsExpression, RunsRight, RunsTree, RunStep}
+use Rattle.tcl_model.specs.ExpressionValue.{decided}
+use Rattle.tcl_model.specs.HostCalls.{Answered, AsText, Calls, Host, SetsTo, World, text_in}
+use Rattle.tcl_model.specs.NamedCommands.{Chooses, EvaluatesText, Holds, ReadsWord, Repeats, RunsEach, RunsFirst, RunsNamed, RunsOtherwise, RunsValues, Sets, named, spaced}
+use Rattle.tcl_model.specs.ScriptRun.{Enters, GoesOnAfter, Runs, RunsBracket, RunsCommand, RunsCommands, RunsOpened, RunsText, RunsWithin, Contents, most_levels, one_more, outermost}
+use Rattle.tcl_model.specs.RunSteps.{Answers, Chosen, Looks, OnWith, Then}
+use Rattle.tcl_model.specs.WordValues.{Level, Opened, RunsJoined, RunsPart, RunsParts, RunsWord, RunsWords, in_body, in_bracket}
 
--- a turn keeps a fact about the host
-abbrev pub Keeps : {S A : Type 0} → (S → Type 0) → Turn (World S) A → Type 0
+-- a step keeps a fact about the host
+abbrev pub Keeps : {S A : Type 0} → (S → Type 0) → RunStep (World S) A → Type 0
 Keeps {S = S} {A = A} K Does = (before : World S) (given : Result A Kind) (after : World S) → Does before given after → K before.host → K after.host
 
 -- every answer of a host does
@@ -51,21 +51,21 @@ stays {S = S} K before after same k = subst (λ (w : World S). K w.host) (sym sa
 answers_keep : {S A : Type 0} (K : S → Type 0) (outcome : Result A Kind) → Keeps K (Answers outcome)
 answers_keep K outcome before given after t k = stays K before after t.1 k
 
-with_keep : {S A B : Type 0} (K : S → Type 0) (Next : A → Turn (World S) B) → ((a : A) → Keeps K (Next a)) → (outcome : Result A Kind) → Keeps K (OnWith Next outcome)
+with_keep : {S A B : Type 0} (K : S → Type 0) (Next : A → RunStep (World S) B) → ((a : A) → Keeps K (Next a)) → (outcome : Result A Kind) → Keeps K (OnWith Next outcome)
 with_keep K Next n (Ok a) before given after t k = n a before given after t k
 with_keep K Next n (Err fault) before given after t k = stays K before after t.1 k
 
-then_keep : {S A B : Type 0} (K : S → Type 0) (First : Turn (World S) A) (Next : A → Turn (World S) B) → Keeps K First → ((a : A) → Keeps K (Next a)) → Keeps K (Then First Next)
+then_keep : {S A B : Type 0} (K : S → Type 0) (First : RunStep (World S) A) (Next : A → RunStep (World S) B) → Keeps K First → ((a : A) → Keeps K (Next a)) → Keeps K (Then First Next)
 then_keep K First Next f n before given after t k = with_keep K Next n t.0 t.1 given after t.3 (f before t.0 t.1 t.2 k)
 
-chosen_keep : {S A : Type 0} (K : S → Type 0) (First Other : Turn (World S) A) → Keeps K First → Keeps K Other → (test : Bool) → Keeps K (Chosen test First Other)
+chosen_keep : {S A : Type 0} (K : S → Type 0) (First Other : RunStep (World S) A) → Keeps K First → Keeps K Other → (test : Bool) → Keeps K (Chosen test First Other)
 chosen_keep K First Other f o true before given after t k = f before given after t k
 chosen_keep K First Other f o false before given after t k = o before given after t k
 
 looks_keep : {S A : Type 0} (K : S → Type 0) (Rule : Result A TclKind → Type 0) → Keeps K (Looks Rule)
 looks_keep K Rule before given after t k = stays K before after t.2.1 k
 
-text_keep : {S : Type 0} (K : S → Type 0) (host : Host S) (Gives : Turn (World S) Value) → Keeps K Gives → Keeps K (AsText host Gives)
+text_keep : {S : Type 0} (K : S → Type 0) (host : Host S) (Gives : RunStep (World S) Value) → Keeps K Gives → Keeps K (AsText host Gives)
 text_keep K host Gives g before given after t k = g before t.0 after t.1 k
 
 sets_keep : {S : Type 0} (K : S → Type 0) (name : List ℕ) (new : Value) → Keeps K (SetsTo name new)
@@ -103,15 +103,15 @@ words_keep K level l (first ∷ words) before given after t k =
 
 -- ---- expressions
 
-right_keep : {S : Type 0} (K : S → Type 0) (Right : Turn (World S) Scalar) → Keeps K Right → (op : BinaryOperator) (left : Scalar) (outcome : Option (Result Scalar TclKind)) → Keeps K (RunsRight Right op left outcome)
+right_keep : {S : Type 0} (K : S → Type 0) (Right : RunStep (World S) Scalar) → Keeps K Right → (op : BinaryOperator) (left : Scalar) (outcome : Option (Result Scalar TclKind)) → Keeps K (RunsRight Right op left outcome)
 right_keep K Right r op left (Some outcome) before given after t k = stays K before after t.1 k
 right_keep K Right r op left None before given after t k = r before t.0 after t.1 k
 
-goes_on_keep : {S : Type 0} (K : S → Type 0) (Right : Turn (World S) Scalar) → Keeps K Right → (op : BinaryOperator) (left : Result Scalar Kind) → Keeps K (GoesOn Right op left)
+goes_on_keep : {S : Type 0} (K : S → Type 0) (Right : RunStep (World S) Scalar) → Keeps K Right → (op : BinaryOperator) (left : Result Scalar Kind) → Keeps K (GoesOn Right op left)
 goes_on_keep K Right r op (Ok left) before given after t k = right_keep K Right r op left (decided op left) before given after t k
 goes_on_keep K Right r op (Err fault) before given after t k = stays K before after t.1 k
 
-tree_keep : {S : Type 0} (K : S → Type 0) (Reads : ℕ → Word → Turn (World S) (List ℕ)) → ((inside : ℕ) (w : Word) → Keeps K (Reads inside w))
+tree_keep : {S : Type 0} (K : S → Type 0) (Reads : ℕ → Word → RunStep (World S) (List ℕ)) → ((inside : ℕ) (w : Word) → Keeps K (Reads inside w))
     → (inside : ℕ) (tree : Tree) → Keeps K (Evaluates Reads inside tree)
 tree_keep K Reads r inside (number n) before given after t k = stays K before after t.1 k
 tree_keep K Reads r inside (word w) before given after t k = r inside w before t.0 after t.1 k
@@ -120,12 +120,12 @@ tree_keep K Reads r inside (unary op tree) before given after t k = tree_keep K 
 tree_keep K Reads r inside (binary op left right) before given after t k =
     goes_on_keep K _ (tree_keep K Reads r inside right) op t.0 t.1 given after t.3 (tree_keep K Reads r inside left before t.0 t.1 t.2 k)
 
-run_tree_keep : {S : Type 0} (K : S → Type 0) (Reads : ℕ → Word → Turn (World S) (List ℕ)) → ((inside : ℕ) (w : Word) → Keeps K (Reads inside w))
+run_tree_keep : {S : Type 0} (K : S → Type 0) (Reads : ℕ → Word → RunStep (World S) (List ℕ)) → ((inside : ℕ) (w : Word) → Keeps K (Reads inside w))
     → (left : ℕ) (tree : Tree) → Keeps K (RunsTree Reads left tree)
 run_tree_keep K Reads r left tree before given after (inl t) k = tree_keep K Reads r 0 tree before given after t.1 k
 run_tree_keep K Reads r left tree before given after (inr t) k = stays K before after t.2 k
 
-expression_keep : {S : Type 0} (K : S → Type 0) (Reads : ℕ → Word → Turn (World S) (List ℕ)) → ((inside : ℕ) (w : Word) → Keeps K (Reads inside w))
+expression_keep : {S : Type 0} (K : S → Type 0) (Reads : ℕ → Word → RunStep (World S) (List ℕ)) → ((inside : ℕ) (w : Word) → Keeps K (Reads inside w))
     → (left : ℕ) (text : List ℕ) → Keeps K (RunsExpression Reads left text)
 expression_keep K Reads r left text before given after (inl t) k = run_tree_keep K Reads r left t.0 before given after t.2 k
 expression_keep K Reads r left text before given after (inr t) k = stays K before after t.2 k
@@ -201,23 +201,23 @@ command_keep K level l one before given after (inr t) k = stays K before after t
 
 -- ---- texts
 
-behind_keep : {S : Type 0} (K : S → Type 0) (Next : Value → World S → Told → World S → Type 0)
-    → ((last : Value) (before : World S) (told : Told) (after : World S) → Next last before told after → K before.host → K after.host)
-    → (one : Command) (others : List Command) (outcome : Result Value Kind) (between : World S) (told : Told) (after : World S)
-    → GoesOnBehind Next one others outcome between told after → K between.host → K after.host
-behind_keep K Next n one others (Ok last) between told after t k = n last between told after t k
-behind_keep K Next n one others (Err kind) between told after t k = stays K between after t.2 k
+after_keep : {S : Type 0} (K : S → Type 0) (Next : Value → World S → Contents → World S → Type 0)
+    → ((last : Value) (before : World S) (told : Contents) (after : World S) → Next last before told after → K before.host → K after.host)
+    → (one : Command) (others : List Command) (outcome : Result Value Kind) (between : World S) (told : Contents) (after : World S)
+    → GoesOnAfter Next one others outcome between told after → K between.host → K after.host
+after_keep K Next n one others (Ok last) between told after t k = n last between told after t k
+after_keep K Next n one others (Err kind) between told after t k = stays K between after t.2 k
 
-commands_keep : {S : Type 0} (K : S → Type 0) (Does : Command → Turn (World S) Value) → ((one : Command) → Keeps K (Does one))
-    → (commands : List Command) (place : Place) (last : Value) (before : World S) (told : Told) (after : World S)
+commands_keep : {S : Type 0} (K : S → Type 0) (Does : Command → RunStep (World S) Value) → ((one : Command) → Keeps K (Does one))
+    → (commands : List Command) (place : Place) (last : Value) (before : World S) (told : Contents) (after : World S)
     → RunsCommands Does commands place last before told after → K before.host → K after.host
 commands_keep K Does d [] place last before told after t k = stays K before after t.3 k
 commands_keep K Does d (one ∷ commands) place last before told after t k =
-    behind_keep K (RunsCommands Does commands t.0) (λ value. commands_keep K Does d commands t.0 value) one commands t.2.0 t.2.1 told after t.2.3
+    after_keep K (RunsCommands Does commands t.0) (λ value. commands_keep K Does d commands t.0 value) one commands t.2.0 t.2.1 told after t.2.3
     (d one before t.2.0 t.2.1 t.2.2 k)
 
-text_run_keep : {S : Type 0} (K : S → Type 0) (Does : Command → Turn (World S) Value) → ((one : Command) → Keeps K (Does one))
-    → (text : List ℕ) (before : World S) (told : Told) (after : World S) → RunsText Does text before told after → K before.host → K after.host
+text_run_keep : {S : Type 0} (K : S → Type 0) (Does : Command → RunStep (World S) Value) → ((one : Command) → Keeps K (Does one))
+    → (text : List ℕ) (before : World S) (told : Contents) (after : World S) → RunsText Does text before told after → K before.host → K after.host
 text_run_keep K Does d text before told after t k = commands_keep K Does d t.0 (record { text = text; line = 1 }) (value.Text []) before told after t.1 k
 
 -- ---- levels

@@ -13,10 +13,10 @@ mod OneTree
 mod OperatorFacts
 mod ParseFacts
 mod ReadTrees
+pub mod RunStepFacts
 mod StepRuns
 pub mod StepsFacts
 mod TokenFacts
 mod TreesRead
-pub mod TurnFacts
 mod VariableFacts
 mod WordRuns

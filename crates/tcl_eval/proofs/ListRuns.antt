@@ -1,4 +1,4 @@
--- Items of texts, and objects of values, one after the other: whatever those behind give, all give.
+-- Items of texts, and objects of values, one after the other: whatever those after give, all give.
 use Rattle.std.proofs.Common.{◌≡◌, ◌++◌, ℕ, List, [], ◌∷◌, length, Option, Some, None, Ok, Err, refl, sym, ap, subst, ◌∙◌, append_assoc, append-nil}
 use Rattle.std.specs.Option.{option_map}
 use Rattle.sdc_base.specs.Gives.{Meets}
@@ -8,8 +8,8 @@ use Rattle.source_types.specs.declared.kinds.TclKind.{TclKind}
 use Rattle.timing_types.specs.declared.objects.Object.{Object}
 use Rattle.timing_types.specs.declared.objects.Value.{Value}
 use Rattle.timing_types.specs.declared.objects.Value.TheVariants as value
-use Rattle.sdc_model.specs.BuiltIns.{HasItems, HaveItems, Outcome, joined_objects, objects_of, on_value, text_values}
-use Rattle.sdc_model.specs.ListItems.{Lists}
+use Rattle.tcl_model.specs.BuiltIns.{HasItems, HaveItems, Outcome, joined_objects, objects_of, on_value, text_values}
+use Rattle.tcl_model.specs.ListItems.{Lists}
 use Rattle.tcl_eval.specs.ListReads.{AddsItems}
 
 -- ---- the items of texts
@@ -66,10 +66,10 @@ texts_read all items rest on e =
 -- ---- the objects of values
 
 -- objects before those of values
-abbrev pub joined_behind : List Object → List Value → Option (List Object)
-joined_behind all values = option_map (λ others. all ++ others) (objects_of values)
+abbrev pub joined_after : List Object → List Value → Option (List Object)
+joined_after all values = option_map (λ others. all ++ others) (objects_of values)
 
-pub joined_all : (values : List Value) → (length values ≡ 0 → ⊥) → joined_behind [] values ≡ joined_objects values
+pub joined_all : (values : List Value) → (length values ≡ 0 → ⊥) → joined_after [] values ≡ joined_objects values
 joined_all [] some = absurd (some refl)
 joined_all (first ∷ values) some = nothing_before (objects_of (first ∷ values)) where
   nothing_before : (o : Option (List Object)) → option_map (λ others. [] ++ others) o ≡ o
@@ -82,15 +82,15 @@ joined_none (first ∷ values) e = absurd (no_length e) where
   no_length : length (first ∷ values) ≡ 0 → ⊥
   no_length e = cc
 
-pub objects_joined : (all objects more : List Object) (rest values : List Value) → rest ≡ value.Objects objects ∷ values → more ≡ all ++ objects → joined_behind all rest ≡ joined_behind more values
+pub objects_joined : (all objects more : List Object) (rest values : List Value) → rest ≡ value.Objects objects ∷ values → more ≡ all ++ objects → joined_after all rest ≡ joined_after more values
 objects_joined all objects more rest values e pushed =
-    ap (joined_behind all) e ∙ (both (objects_of values) ∙ ap (λ m. joined_behind m values) (sym pushed)) where
+    ap (joined_after all) e ∙ (both (objects_of values) ∙ ap (λ m. joined_after m values) (sym pushed)) where
       both : (o : Option (List Object)) → option_map (λ others. all ++ others) (option_map (λ others. objects ++ others) o) ≡ option_map (λ others. (all ++ objects) ++ others) o
       both None = refl
       both (Some others) = ap (λ list. Some list) (sym (append_assoc all objects others))
 
-pub text_between : (all : List Object) (text : List ℕ) (rest values : List Value) → rest ≡ value.Text text ∷ values → joined_behind all rest ≡ None
-text_between all text rest values e = ap (joined_behind all) e
+pub text_between : (all : List Object) (text : List ℕ) (rest values : List Value) → rest ≡ value.Text text ∷ values → joined_after all rest ≡ None
+text_between all text rest values e = ap (joined_after all) e
 
-pub all_joined : (all : List Object) (rest : List Value) → rest ≡ [] → joined_behind all rest ≡ Some all
-all_joined all rest e = ap (joined_behind all) e ∙ ap (λ list. Some list) (append-nil all)
+pub all_joined : (all : List Object) (rest : List Value) → rest ≡ [] → joined_after all rest ≡ Some all
+all_joined all rest e = ap (joined_after all) e ∙ ap (λ list. Some list) (append-nil all)

@@ -1,4 +1,4 @@
--- Commands that are run by their words and names, items of `foreach`, and conditions of `if`: whatever those behind
+-- Commands that are run by their words and names, items of `foreach`, and conditions of `if`: whatever those after
 -- give, all give.
 use Rattle.std.proofs.Common.{◌≡◌, ◌+◌, ℕ, Bool, true, false, List, [], ◌∷◌, length, get_or, arith, Option, Result, Ok, Err, refl, sym, ap, subst, ◌∙◌, inl}
 use Rattle.sdc_base.specs.Gives.{Gives, Meets}
@@ -11,24 +11,24 @@ use Rattle.source_types.specs.declared.expressions.Scalar.{Scalar}
 use Rattle.source_types.specs.declared.kinds.Kind.{Kind}
 use Rattle.source_types.specs.declared.kinds.TclKind.{TclKind}
 use Rattle.timing_types.specs.declared.objects.Value.{Value}
-use Rattle.sdc_model.specs.BuiltIns.{HasItems, no_text}
-use Rattle.sdc_model.specs.ExpressionValue.{truth_of}
-use Rattle.sdc_model.specs.HostCalls.{SetsTo, World, text_in}
-use Rattle.sdc_model.specs.NamedCommands.{EvaluatesText, Repeats, RunsEach, RunsFirst, RunsNamed, RunsOtherwise, RunsValues, named}
-use Rattle.sdc_model.specs.ScriptRun.{RunsCommand, one_more}
-use Rattle.sdc_model.specs.Turns.{Looks, Then, tcl_outcome}
-use Rattle.sdc_model.specs.Variables.{Variable, with_variable}
-use Rattle.sdc_model.specs.WordValues.{Level, RunsWords, in_body}
+use Rattle.tcl_model.specs.BuiltIns.{HasItems, no_text}
+use Rattle.tcl_model.specs.ExpressionValue.{truth_of}
+use Rattle.tcl_model.specs.HostCalls.{SetsTo, World, text_in}
+use Rattle.tcl_model.specs.NamedCommands.{EvaluatesText, Repeats, RunsEach, RunsFirst, RunsNamed, RunsOtherwise, RunsValues, named}
+use Rattle.tcl_model.specs.ScriptRun.{RunsCommand, one_more}
+use Rattle.tcl_model.specs.RunSteps.{Looks, Then, tcl_outcome}
+use Rattle.tcl_model.specs.Variables.{Variable, with_variable}
+use Rattle.tcl_model.specs.WordValues.{Level, RunsWords, in_body}
 use Rattle.tcl_eval.specs.declared.progress.Progress.{Progress}
 use Rattle.tcl_eval.specs.Worlds.{Begins, Does, as_answer, world}
-use Rattle.tcl_eval.proofs.TurnFacts.{answer_ok, looked, then_ok, then_stop}
+use Rattle.tcl_eval.proofs.RunStepFacts.{answer_ok, looked, then_ok, then_stop}
 
 -- ---- a command
 
 begins_world : {State : Type 0} (old new : Progress) (state : State) → new ≡ record old { begun = old.begun + 1 } → world new state ≡ one_more (world old state)
 begins_world old new state e = ap (λ run. world run state) e
 
--- behind its count
+-- after its count
 begun : {State : Type 0} (level : Level State) (command : Command) (old new : Progress) (state : State) (given : Result Value Kind) (after : World State)
     → Begins old (Ok tt) new → Then (RunsWords level command.words) (RunsValues level) (world new state) given after → RunsCommand level command (world old state) given after
 begun level command old new state given after h ran =

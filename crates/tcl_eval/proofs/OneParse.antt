@@ -2,10 +2,10 @@
 use Rattle.std.proofs.Common.{◌≡◌, ℕ, List, Result, Ok, Err, sym, ap, ◌∙◌}
 use Rattle.source_types.specs.declared.expressions.Expression.{Expression}
 use Rattle.source_types.specs.declared.kinds.TclKind.{TclKind}
-use Rattle.sdc_model.specs.ExpressionForm.{IsExpression, Tree, spelling}
-use Rattle.sdc_model.specs.ExpressionSteps.{ParsesTo, kept}
-use Rattle.sdc_model.specs.ExpressionTokens.{StandsToken, all_read}
-use Rattle.sdc_model.proofs.RowFacts.{row_once}
+use Rattle.tcl_model.specs.ExpressionForm.{IsExpression, Tree, spelling}
+use Rattle.tcl_model.specs.ExpressionSteps.{ParsesTo, kept}
+use Rattle.tcl_model.specs.ExpressionTokens.{StandsToken, all_read}
+use Rattle.text_model.proofs.RowFacts.{row_once}
 use Rattle.tcl_eval.proofs.OneTree.{trees_once}
 use Rattle.tcl_eval.proofs.TokenFacts.{token_once}
 

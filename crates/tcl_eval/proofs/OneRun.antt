@@ -11,17 +11,17 @@ use Rattle.source_types.specs.declared.kinds.Kind.{Kind}
 use Rattle.source_types.specs.declared.kinds.TclKind.{TclKind}
 use Rattle.timing_types.specs.declared.objects.Value.{Value}
 use Rattle.timing_types.specs.declared.objects.Value.TheVariants as value
-use Rattle.sdc_model.specs.Branches.{branches_of}
-use Rattle.sdc_model.specs.BuiltIns.{Concats, Counts, HasItems, Indexes, joined_objects}
-use Rattle.sdc_model.specs.Bytes.{is_index}
-use Rattle.sdc_model.specs.Commands.{Place, StandsCommand}
-use Rattle.sdc_model.specs.ExpressionRun.{Turn}
-use Rattle.sdc_model.specs.HostCalls.{Host, SetsTo, World, text_in}
-use Rattle.sdc_model.specs.NamedCommands.{Chooses, Holds, Repeats, RunsEach, RunsFirst, RunsNamed, RunsOtherwise, RunsValues, Sets, named, spaced}
-use Rattle.sdc_model.specs.Row.{found, stops}
-use Rattle.sdc_model.specs.ScriptRun.{Enters, GoesOnBehind, RunsBracket, RunsCommand, RunsCommands, RunsOpened, RunsText, RunsWithin, Told, most_commands, most_levels, one_more, outermost, told_end, without_line, without_value}
-use Rattle.sdc_model.specs.WordValues.{Level, Opened, in_body, in_bracket}
-use Rattle.sdc_model.proofs.RowFacts.{not_both, same_end, same_place, same_thing}
+use Rattle.tcl_model.specs.Branches.{branches_of}
+use Rattle.tcl_model.specs.BuiltIns.{Concats, Counts, HasItems, Indexes, joined_objects}
+use Rattle.text_model.specs.Bytes.{is_index}
+use Rattle.tcl_model.specs.Commands.{Place, StandsCommand}
+use Rattle.tcl_model.specs.ExpressionRun.{RunStep}
+use Rattle.tcl_model.specs.HostCalls.{Host, SetsTo, World, text_in}
+use Rattle.tcl_model.specs.NamedCommands.{Chooses, Holds, Repeats, RunsEach, RunsFirst, RunsNamed, RunsOtherwise, RunsValues, Sets, named, spaced}
+use Rattle.text_model.specs.Row.{found, stops}
+use Rattle.tcl_model.specs.ScriptRun.{Enters, GoesOnAfter, RunsBracket, RunsCommand, RunsCommands, RunsOpened, RunsText, RunsWithin, Contents, most_commands, most_levels, one_more, outermost, told_end, without_line, without_value}
+use Rattle.tcl_model.specs.WordValues.{Level, Opened, in_body, in_bracket}
+use Rattle.text_model.proofs.RowFacts.{not_both, same_end, same_place, same_thing}
 use Rattle.tcl_words.proofs.OneOutcome.{commands_once}
 use Rattle.tcl_eval.specs.Laws.{HasOneRun, HostIsOne, IsOne}
 use Rattle.tcl_eval.proofs.OneSteps.{LevelIsOne, answers_one, apart, both, calls_one, chosen_one, concatenates_one, counts_one, evaluates_one, indexes_one, items_one, looks_one, then_one, words_one}
@@ -102,22 +102,22 @@ command_one level l this before a b x y (inr t) (inr u) = both t.1.0 t.1.1 u.1.0
 -- ---- texts
 
 -- a text is told one outcome and leaves one world
-abbrev IsToldOne : {S : Type 0} → (World S → Told → World S → Type 0) → Type 0
-IsToldOne {S = S} Tells = (before : World S) (a b : Told) (x y : World S) → Tells before a x → Tells before b y → (a ≡ b) × (x ≡ y)
+abbrev IsToldOne : {S : Type 0} → (World S → Contents → World S → Type 0) → Type 0
+IsToldOne {S = S} Tells = (before : World S) (a b : Contents) (x y : World S) → Tells before a x → Tells before b y → (a ≡ b) × (x ≡ y)
 
 end_same : (place : Place) (e f : Option (At TclKind)) → StandsCommand place (stops e) → StandsCommand place (stops f) → e ≡ f
 end_same place e f p q = same_end e f (commands_once place (stops e) (stops f) p q)
 
--- behind a command with an outcome: either both go on or both end
-behind_one : {S : Type 0} (This Other : Value → World S → Told → World S → Type 0) (this : Command) (xs ys : List Command)
-    → ((last : Value) (before : World S) (a b : Told) (x y : World S) → This last before a x → Other last before b y → (a ≡ b) × (x ≡ y))
-    → (outcome : Result Value Kind) (between : World S) (a b : Told) (x y : World S)
-    → GoesOnBehind This this xs outcome between a x → GoesOnBehind Other this ys outcome between b y → (a ≡ b) × (x ≡ y)
-behind_one This Other this xs ys n (Ok last) between a b x y t u = n last between a b x y t u
-behind_one This Other this xs ys n (Err kind) between a b x y t u = both t.1 t.2 u.1 u.2
+-- after a command with an outcome: either both go on or both end
+after_one : {S : Type 0} (This Other : Value → World S → Contents → World S → Type 0) (this : Command) (xs ys : List Command)
+    → ((last : Value) (before : World S) (a b : Contents) (x y : World S) → This last before a x → Other last before b y → (a ≡ b) × (x ≡ y))
+    → (outcome : Result Value Kind) (between : World S) (a b : Contents) (x y : World S)
+    → GoesOnAfter This this xs outcome between a x → GoesOnAfter Other this ys outcome between b y → (a ≡ b) × (x ≡ y)
+after_one This Other this xs ys n (Ok last) between a b x y t u = n last between a b x y t u
+after_one This Other this xs ys n (Err kind) between a b x y t u = both t.1 t.2 u.1 u.2
 
-commands_one : {S : Type 0} (Does : Command → Turn (World S) Value) → ((this : Command) → IsOne (Does this))
-    → (xs ys : List Command) (place : Place) (last : Value) (before : World S) (a b : Told) (x y : World S)
+commands_one : {S : Type 0} (Does : Command → RunStep (World S) Value) → ((this : Command) → IsOne (Does this))
+    → (xs ys : List Command) (place : Place) (last : Value) (before : World S) (a b : Contents) (x y : World S)
     → RunsCommands Does xs place last before a x → RunsCommands Does ys place last before b y → (a ≡ b) × (x ≡ y)
 commands_one Does d [] [] place last before a b x y t u =
     (t.2 ∙ ap (told_end last) (end_same place t.0 u.0 t.1 u.1) ∙ sym u.2, t.3 ∙ sym u.3)
@@ -131,15 +131,15 @@ commands_one {S = S} Does d (p ∷ xs) (q ∷ ys) place last before a b x y t u 
     let next : t.0 ≡ u.0 = same_place p q t.0 u.0 front in
     let other : Does p before u.2.0 u.2.1 = subst (λ (c : Command). Does c before u.2.0 u.2.1) (sym same) u.2.2 in
     let done = d p before t.2.0 u.2.0 t.2.1 u.2.1 t.2.2 other in
-    let One : Value → World S → Told → World S → Type 0 = RunsCommands Does xs t.0 in
-    let Two : Value → World S → Told → World S → Type 0 = RunsCommands Does ys t.0 in
-    let placed : GoesOnBehind Two q ys u.2.0 u.2.1 b y = subst (λ (n : Place). GoesOnBehind (RunsCommands Does ys n) q ys u.2.0 u.2.1 b y) (sym next) u.2.3 in
-    let named : GoesOnBehind Two p ys u.2.0 u.2.1 b y = subst (λ (c : Command). GoesOnBehind Two c ys u.2.0 u.2.1 b y) (sym same) placed in
-    let here : GoesOnBehind Two p ys t.2.0 u.2.1 b y = subst (λ (o : Result Value Kind). GoesOnBehind Two p ys o u.2.1 b y) (sym done.0) named in
-    let there : GoesOnBehind Two p ys t.2.0 t.2.1 b y = subst (λ (w : World S). GoesOnBehind Two p ys t.2.0 w b y) (sym done.1) here in
-    behind_one One Two p xs ys (λ value. commands_one Does d xs ys t.0 value) t.2.0 t.2.1 a b x y t.2.3 there
+    let One : Value → World S → Contents → World S → Type 0 = RunsCommands Does xs t.0 in
+    let Two : Value → World S → Contents → World S → Type 0 = RunsCommands Does ys t.0 in
+    let placed : GoesOnAfter Two q ys u.2.0 u.2.1 b y = subst (λ (n : Place). GoesOnAfter (RunsCommands Does ys n) q ys u.2.0 u.2.1 b y) (sym next) u.2.3 in
+    let named : GoesOnAfter Two p ys u.2.0 u.2.1 b y = subst (λ (c : Command). GoesOnAfter Two c ys u.2.0 u.2.1 b y) (sym same) placed in
+    let here : GoesOnAfter Two p ys t.2.0 u.2.1 b y = subst (λ (o : Result Value Kind). GoesOnAfter Two p ys o u.2.1 b y) (sym done.0) named in
+    let there : GoesOnAfter Two p ys t.2.0 t.2.1 b y = subst (λ (w : World S). GoesOnAfter Two p ys t.2.0 w b y) (sym done.1) here in
+    after_one One Two p xs ys (λ value. commands_one Does d xs ys t.0 value) t.2.0 t.2.1 a b x y t.2.3 there
 
-text_run_one : {S : Type 0} (Does : Command → Turn (World S) Value) → ((this : Command) → IsOne (Does this))
+text_run_one : {S : Type 0} (Does : Command → RunStep (World S) Value) → ((this : Command) → IsOne (Does this))
     → (text : List ℕ) → IsToldOne (RunsText Does text)
 text_run_one Does d text before a b x y t u =
     commands_one Does d t.0 u.0 (record { text = text; line = 1 }) (value.Text []) before a b x y t.1 u.1

@@ -11,14 +11,14 @@ use Rattle.source_types.specs.declared.kinds.TclKind.{TclKind}
 use Rattle.timing_types.specs.declared.objects.Object.{Object}
 use Rattle.timing_types.specs.declared.objects.Value.{Value}
 use Rattle.timing_types.specs.declared.objects.Value.TheVariants as value
-use Rattle.sdc_model.specs.BuiltIns.{Concatenates, Counts, HasItems, HaveItems, HaveMore, Indexes, Outcome, index_of, indexed, on_value}
-use Rattle.sdc_model.specs.ExpressionForm.{Tree, binary, levels_of, number, parentheses, unary, word}
-use Rattle.sdc_model.specs.ExpressionRun.{Evaluates, GoesOn, RunsExpression, RunsRight, RunsTree, Turn, as_scalar, then_on}
-use Rattle.sdc_model.specs.ExpressionValue.{changed, decided, joined, text_of}
-use Rattle.sdc_model.specs.HostCalls.{AsText, Calls, Host, World, text_outcome}
-use Rattle.sdc_model.specs.NamedCommands.{EvaluatesText, ReadsWord}
-use Rattle.sdc_model.specs.Turns.{Answers, Chosen, Looks, OnWith, Then, tcl_outcome}
-use Rattle.sdc_model.specs.WordValues.{Level, Opened, RunsJoined, RunsPart, RunsParts, RunsWord, RunsWords, in_bracket}
+use Rattle.tcl_model.specs.BuiltIns.{Concatenates, Counts, HasItems, HaveItems, HaveMore, Indexes, Outcome, index_of, indexed, on_value}
+use Rattle.tcl_model.specs.ExpressionForm.{Tree, binary, levels_of, number, parentheses, unary, word}
+use Rattle.tcl_model.specs.ExpressionRun.{Evaluates, GoesOn, RunsExpression, RunsRight, RunsTree, RunStep, as_scalar, then_on}
+use Rattle.tcl_model.specs.ExpressionValue.{changed, decided, joined, text_of}
+use Rattle.tcl_model.specs.HostCalls.{AsText, Calls, Host, World, text_outcome}
+use Rattle.tcl_model.specs.NamedCommands.{EvaluatesText, ReadsWord}
+use Rattle.tcl_model.specs.RunSteps.{Answers, Chosen, Looks, OnWith, Then, tcl_outcome}
+use Rattle.tcl_model.specs.WordValues.{Level, Opened, RunsJoined, RunsPart, RunsParts, RunsWord, RunsWords, in_bracket}
 use Rattle.tcl_words.proofs.ItemsOnce.{lists_once}
 use Rattle.tcl_eval.specs.Laws.{HostIsOne, IsOne}
 use Rattle.tcl_eval.proofs.OneParse.{expressions_once}
@@ -35,18 +35,18 @@ both p q r s = (p ∙ sym r, q ∙ sym s)
 pub answers_one : {S A : Type 0} (outcome : Result A Kind) → IsOne {S = S} (Answers outcome)
 answers_one outcome before a b x y t u = both t.0 t.1 u.0 u.1
 
-with_one : {S A B : Type 0} (Next : A → Turn S B) → ((v : A) → IsOne (Next v)) → (outcome : Result A Kind) → IsOne (OnWith Next outcome)
+with_one : {S A B : Type 0} (Next : A → RunStep S B) → ((v : A) → IsOne (Next v)) → (outcome : Result A Kind) → IsOne (OnWith Next outcome)
 with_one Next n (Ok v) before a b x y t u = n v before a b x y t u
 with_one Next n (Err fault) before a b x y t u = both t.0 t.1 u.0 u.1
 
-pub then_one : {S A B : Type 0} (First : Turn S A) (Next : A → Turn S B) → IsOne First → ((v : A) → IsOne (Next v)) → IsOne (Then First Next)
+pub then_one : {S A B : Type 0} (First : RunStep S A) (Next : A → RunStep S B) → IsOne First → ((v : A) → IsOne (Next v)) → IsOne (Then First Next)
 then_one {S = S} {A = A} First Next f n before a b x y t u =
     let same = f before t.0 u.0 t.1 u.1 t.2 u.2 in
     let here : OnWith Next t.0 u.1 b y = subst (λ (o : Result A Kind). OnWith Next o u.1 b y) (sym same.0) u.3 in
     let there : OnWith Next t.0 t.1 b y = subst (λ (w : S). OnWith Next t.0 w b y) (sym same.1) here in
     with_one Next n t.0 t.1 a b x y t.3 there
 
-pub chosen_one : {S A : Type 0} (First Other : Turn S A) → IsOne First → IsOne Other → (test : Bool) → IsOne (Chosen test First Other)
+pub chosen_one : {S A : Type 0} (First Other : RunStep S A) → IsOne First → IsOne Other → (test : Bool) → IsOne (Chosen test First Other)
 chosen_one First Other f o true before a b x y t u = f before a b x y t u
 chosen_one First Other f o false before a b x y t u = o before a b x y t u
 
@@ -58,7 +58,7 @@ pub looks_one : {S A : Type 0} (Rule : Result A TclKind → Type 0) → RuleIsOn
 looks_one Rule one before a b x y t u =
     (t.2.0 ∙ ap tcl_outcome (one t.0 u.0 t.1 u.1) ∙ sym u.2.0, t.2.1 ∙ sym u.2.1)
 
-text_one : {S : Type 0} (host : Host S) (Gives : Turn (World S) Value) → IsOne Gives → IsOne (AsText host Gives)
+text_one : {S : Type 0} (host : Host S) (Gives : RunStep (World S) Value) → IsOne Gives → IsOne (AsText host Gives)
 text_one {S = S} host Gives g before a b x y t u =
     let same = g before t.0 u.0 x y t.1 u.1 in
     (t.2 ∙ ap (text_outcome host x.host) same.0 ∙ ap (λ (w : World S). text_outcome host w.host u.0) same.1 ∙ sym u.2, same.1)
@@ -97,17 +97,17 @@ words_one level l (first ∷ words) before a b x y t u =
 
 -- ---- expressions
 
-right_one : {S : Type 0} (Right : Turn S Scalar) → IsOne Right → (op : BinaryOperator) (left : Scalar) (outcome : Option (Result Scalar TclKind)) → IsOne (RunsRight Right op left outcome)
+right_one : {S : Type 0} (Right : RunStep S Scalar) → IsOne Right → (op : BinaryOperator) (left : Scalar) (outcome : Option (Result Scalar TclKind)) → IsOne (RunsRight Right op left outcome)
 right_one Right r op left (Some outcome) before a b x y t u = both t.0 t.1 u.0 u.1
 right_one Right r op left None before a b x y t u =
     let same = r before t.0 u.0 x y t.1 u.1 in
     (t.2 ∙ ap (λ o. then_on o (joined op left)) same.0 ∙ sym u.2, same.1)
 
-goes_on_one : {S : Type 0} (Right : Turn S Scalar) → IsOne Right → (op : BinaryOperator) (left : Result Scalar Kind) → IsOne (GoesOn Right op left)
+goes_on_one : {S : Type 0} (Right : RunStep S Scalar) → IsOne Right → (op : BinaryOperator) (left : Result Scalar Kind) → IsOne (GoesOn Right op left)
 goes_on_one Right r op (Ok left) before a b x y t u = right_one Right r op left (decided op left) before a b x y t u
 goes_on_one Right r op (Err fault) before a b x y t u = both t.0 t.1 u.0 u.1
 
-tree_one : {S : Type 0} (Reads : ℕ → Word → Turn S (List ℕ)) → ((inside : ℕ) (w : Word) → IsOne (Reads inside w)) → (inside : ℕ) (tree : Tree) → IsOne (Evaluates Reads inside tree)
+tree_one : {S : Type 0} (Reads : ℕ → Word → RunStep S (List ℕ)) → ((inside : ℕ) (w : Word) → IsOne (Reads inside w)) → (inside : ℕ) (tree : Tree) → IsOne (Evaluates Reads inside tree)
 tree_one Reads r inside (number n) before a b x y t u = both t.0 t.1 u.0 u.1
 tree_one Reads r inside (word w) before a b x y t u =
     let same = r inside w before t.0 u.0 x y t.1 u.1 in
@@ -118,7 +118,7 @@ tree_one Reads r inside (unary op tree) before a b x y t u =
     (t.2 ∙ ap (λ o. then_on o (changed op)) same.0 ∙ sym u.2, same.1)
 tree_one {S = S} Reads r inside (binary op left right) before a b x y t u =
     let same = tree_one Reads r inside left before t.0 u.0 t.1 u.1 t.2 u.2 in
-    let Right : Turn S Scalar = Evaluates Reads inside right in
+    let Right : RunStep S Scalar = Evaluates Reads inside right in
     let here : GoesOn Right op t.0 u.1 b y = subst (λ (o : Result Scalar Kind). GoesOn Right op o u.1 b y) (sym same.0) u.3 in
     let there : GoesOn Right op t.0 t.1 b y = subst (λ (w : S). GoesOn Right op t.0 w b y) (sym same.1) here in
     goes_on_one Right (tree_one Reads r inside right) op t.0 t.1 a b x y t.3 there
@@ -126,13 +126,13 @@ tree_one {S = S} Reads r inside (binary op left right) before a b x y t u =
 pub apart : (m n : ℕ) → m ≤ n → n < m → ⊥
 apart m n p q = omega (arith, p, q)
 
-run_tree_one : {S : Type 0} (Reads : ℕ → Word → Turn S (List ℕ)) → ((inside : ℕ) (w : Word) → IsOne (Reads inside w)) → (left : ℕ) (tree : Tree) → IsOne (RunsTree Reads left tree)
+run_tree_one : {S : Type 0} (Reads : ℕ → Word → RunStep S (List ℕ)) → ((inside : ℕ) (w : Word) → IsOne (Reads inside w)) → (left : ℕ) (tree : Tree) → IsOne (RunsTree Reads left tree)
 run_tree_one Reads r left tree before a b x y (inl t) (inl u) = tree_one Reads r 0 tree before a b x y t.1 u.1
 run_tree_one Reads r left tree before a b x y (inl t) (inr u) = absurd (apart (levels_of tree) left t.0 u.0)
 run_tree_one Reads r left tree before a b x y (inr t) (inl u) = absurd (apart (levels_of tree) left u.0 t.0)
 run_tree_one Reads r left tree before a b x y (inr t) (inr u) = both t.1 t.2 u.1 u.2
 
-expression_one : {S : Type 0} (Reads : ℕ → Word → Turn S (List ℕ)) → ((inside : ℕ) (w : Word) → IsOne (Reads inside w)) → (left : ℕ) (text : List ℕ) → IsOne (RunsExpression Reads left text)
+expression_one : {S : Type 0} (Reads : ℕ → Word → RunStep S (List ℕ)) → ((inside : ℕ) (w : Word) → IsOne (Reads inside w)) → (left : ℕ) (text : List ℕ) → IsOne (RunsExpression Reads left text)
 expression_one Reads r left text before a b x y (inl t) (inl u) =
     let same = expressions_once text t.0 u.0 t.1 u.1 in
     run_tree_one Reads r left t.0 before a b x y t.2 (subst (λ (tree : Tree). RunsTree Reads left tree before b y) (sym same) u.2)

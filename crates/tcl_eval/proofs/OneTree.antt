@@ -7,7 +7,7 @@ use Rattle.source_types.specs.declared.expressions.ExpressionToken.{ExpressionTo
 use Rattle.source_types.specs.declared.expressions.ExpressionToken.TheVariants as token
 use Rattle.source_types.specs.declared.expressions.UnaryOperator.{UnaryOperator}
 use Rattle.source_types.specs.declared.expressions.UnaryOperator.TheVariants.{Minus, Not, Plus}
-use Rattle.sdc_model.specs.ExpressionForm.{IsGrouped, Tree, binary, binding, number, parentheses, spelling, tightness, unary, unary_binding, unary_token, word}
+use Rattle.tcl_model.specs.ExpressionForm.{IsGrouped, Tree, binary, binding, number, parentheses, spelling, tightness, unary, unary_binding, unary_token, word}
 use Rattle.tcl_eval.specs.declared.waiting.Waiting.{Waiting}
 use Rattle.tcl_eval.specs.declared.waiting.Waiting.TheVariants as waiting
 use Rattle.tcl_eval.specs.ExpressionReading.{is_done, sign_of}

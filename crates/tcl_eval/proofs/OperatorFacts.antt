@@ -8,7 +8,7 @@ use Rattle.source_types.specs.declared.expressions.BinaryOperator.{BinaryOperato
 use Rattle.source_types.specs.declared.expressions.ExpressionToken.{ExpressionToken}
 use Rattle.source_types.specs.declared.expressions.ExpressionToken.TheVariants as token
 use Rattle.source_types.specs.declared.kinds.TclKind.TheVariants.{BadExpr}
-use Rattle.sdc_model.specs.ExpressionTokens.{TokenFront, operator_front, pair, pair_front, single, single_front}
+use Rattle.tcl_model.specs.ExpressionTokens.{TokenFront, operator_front, pair, pair_front, single, single_front}
 use Rattle.tcl_words.specs.Operands.{IsFront}
 use Rattle.tcl_words.specs.Spans.{Keeps}
 use Rattle.tcl_words.proofs.RunFacts.{drop_all, keeps_one}

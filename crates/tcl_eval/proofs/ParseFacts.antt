@@ -1,4 +1,4 @@
--- Tokens of an expression one behind the other, and what was read of them.
+-- Tokens of an expression one after the other, and what was read of them.
 use Rattle.std.proofs.Common.{◌≡◌, ◌≤◌, ◌+◌, ◌++◌, ℕ, List, [], ◌∷◌, Option, Some, None, Ok, Err, drop, length, refl, sym, ap, subst, ◌∙◌, arith}
 use Rattle.std.proofs.lemmas.Option.{none-some, same_Some}
 use Rattle.std.proofs.lemmas.Str.{IsCharBoundary-start}
@@ -11,11 +11,11 @@ use Rattle.source_types.specs.declared.expressions.Expression.{Expression}
 use Rattle.source_types.specs.declared.expressions.ExpressionToken.{ExpressionToken}
 use Rattle.source_types.specs.declared.kinds.TclKind.{TclKind}
 use Rattle.source_types.specs.declared.kinds.TclKind.TheVariants.{BadExpr}
-use Rattle.sdc_model.specs.ExpressionForm.{IsExpression, Tree, spelling}
-use Rattle.sdc_model.specs.ExpressionSteps.{ParsesTo, kept}
-use Rattle.sdc_model.specs.ExpressionTokens.{AreTokens, Halt, StandsToken, TokenFront, all_read, malformed}
-use Rattle.sdc_model.specs.Row.{found, stops}
-use Rattle.sdc_model.proofs.RowFacts.{not_both, same_place, same_thing}
+use Rattle.tcl_model.specs.ExpressionForm.{IsExpression, Tree, spelling}
+use Rattle.tcl_model.specs.ExpressionSteps.{ParsesTo, kept}
+use Rattle.tcl_model.specs.ExpressionTokens.{AreTokens, Halt, StandsToken, TokenFront, all_read, malformed}
+use Rattle.text_model.specs.Row.{found, stops}
+use Rattle.text_model.proofs.RowFacts.{not_both, same_place, same_thing}
 use Rattle.tcl_eval.specs.declared.lexed.Lexed.{Lexed}
 use Rattle.tcl_eval.specs.declared.reading.Reading as code
 use Rattle.tcl_eval.specs.ExpressionReading.{Reading, ended, nothing_read, parsed, step, steps_on}
@@ -25,9 +25,9 @@ use Rattle.tcl_eval.proofs.ReadTrees.{tree_parsed}
 use Rattle.tcl_eval.proofs.TokenFacts.{token_once}
 use Rattle.tcl_eval.proofs.TreesRead.{parsed_spells}
 
--- ---- tokens one behind the other
+-- ---- tokens one after the other
 
--- these tokens stand in a row from a text on, and this rest is behind them
+-- these tokens stand in a row from a text on, and this rest is after them
 abbrev pub Leads : List ExpressionToken → List ℕ → List ℕ → Type 0
 Leads [] text rest = text ≡ rest
 Leads (x ∷ xs) text rest = (next : List ℕ) × StandsToken text (found x next) × Leads xs next rest
@@ -41,17 +41,17 @@ row_of [] text rest halt e stands = subst (λ (t : List ℕ). StandsToken t (sto
 row_of (x ∷ xs) text rest halt l stands = (l.0, l.1, row_of xs l.0 rest halt l.2 stands)
 
 -- the rest of a row whose front is known
-pub record Behind (xs ys : List ExpressionToken) (rest : List ℕ) (halt : Halt) : Type 0 where
+pub record After (xs ys : List ExpressionToken) (rest : List ℕ) (halt : Halt) : Type 0 where
   pub more : List ExpressionToken
   pub is : ys ≡ xs ++ more
   pub row : AreTokens more rest halt
 
-behind_front : (xs ys : List ExpressionToken) (text rest : List ℕ) (halt : Halt) → Leads xs text rest → AreTokens ys text halt → Behind xs ys rest halt
-behind_front [] ys text rest halt e row = record { more = ys; is = refl; row = subst (λ (t : List ℕ). AreTokens ys t halt) e row }
-behind_front (x ∷ xs) [] text rest halt l row = absurd (not_both x l.0 halt (token_once text (found x l.0) (stops halt) l.1 row))
-behind_front (x ∷ xs) (y ∷ ys) text rest halt l row =
+after_front : (xs ys : List ExpressionToken) (text rest : List ℕ) (halt : Halt) → Leads xs text rest → AreTokens ys text halt → After xs ys rest halt
+after_front [] ys text rest halt e row = record { more = ys; is = refl; row = subst (λ (t : List ℕ). AreTokens ys t halt) e row }
+after_front (x ∷ xs) [] text rest halt l row = absurd (not_both x l.0 halt (token_once text (found x l.0) (stops halt) l.1 row))
+after_front (x ∷ xs) (y ∷ ys) text rest halt l row =
     let one = token_once text (found x l.0) (found y row.0) l.1 row.1 in
-    let inner = behind_front xs ys l.0 rest halt l.2 (subst (λ (t : List ℕ). AreTokens ys t halt) (sym (same_place x y l.0 row.0 one)) row.2) in
+    let inner = after_front xs ys l.0 rest halt l.2 (subst (λ (t : List ℕ). AreTokens ys t halt) (sym (same_place x y l.0 row.0 one)) row.2) in
     record {
       more = inner.more;
       is = ap (λ (z : ExpressionToken). z ∷ ys) (sym (same_thing x y l.0 row.0 one)) ∙ ap (λ (zs : List ExpressionToken). x ∷ zs) inner.is;
@@ -64,8 +64,8 @@ front_then : (xs more : List ExpressionToken) (r : Reading) → steps_on (xs ++ 
 front_then [] more r = refl
 front_then (x ∷ xs) more r = on_step (λ next. front_then xs more next) (step r x) where
   on_step : ((next : Reading) → steps_on (xs ++ more) next ≡ option_and_then (steps_on more) (steps_on xs next)) → (o : Option Reading) → option_and_then (steps_on (xs ++ more)) o ≡ option_and_then (steps_on more) (option_and_then (steps_on xs) o)
-  on_step behind None = refl
-  on_step behind (Some next) = behind next
+  on_step after None = refl
+  on_step after (Some next) = after next
 
 -- the tokens before a place were read
 pub record ParsedSoFar (text : List ℕ) (at : ℕ) (reading : code.Reading) : Type 0 where
@@ -112,7 +112,7 @@ pub so_far_malformed : (text : List ℕ) (at : ℕ) (reading : code.Reading) (ki
 so_far_malformed text at reading kind so_far m = (
   m.0,
   λ tree is.
-      let b = behind_front so_far.tokens (spelling tree) text (drop at text) all_read so_far.leads is.spelled in
+      let b = after_front so_far.tokens (spelling tree) text (drop at text) all_read so_far.leads is.spelled in
       malformed_row b.more (drop at text) m.1 b.row,
 )
 
@@ -120,12 +120,12 @@ pub so_far_stop : (text : List ℕ) (at : ℕ) (reading : code.Reading) (stop : 
 so_far_stop text at reading (Refused kind) so_far m = so_far_malformed text at reading kind so_far m
 so_far_stop text at reading NoMemory so_far m = tt
 
--- where a token cannot stand behind those before it
+-- where a token cannot stand after those before it
 pub so_far_refused : (text : List ℕ) (at : ℕ) (reading : code.Reading) (lexed : Lexed) → ParsedSoFar text at reading → TokenFrom text at (Ok (Some lexed)) → None ≡ step (seen reading) lexed.token → ParsesTo text (Err BadExpr)
 so_far_refused text at reading lexed so_far token e = (refl, λ tree is. no_tree tree is) where
   no_tree : (tree : Tree) → IsExpression text tree → ⊥
   no_tree tree is =
-      let b = behind_front (so_far.tokens ++ lexed.token ∷ []) (spelling tree) text (drop lexed.end text) all_read (leads_more so_far.tokens lexed.token text (drop at text) (drop lexed.end text) so_far.leads token.0) is.spelled in
+      let b = after_front (so_far.tokens ++ lexed.token ∷ []) (spelling tree) text (drop lexed.end text) all_read (leads_more so_far.tokens lexed.token text (drop at text) (drop lexed.end text) so_far.leads token.0) is.spelled in
       let front : steps_on (so_far.tokens ++ lexed.token ∷ []) nothing_read ≡ None =
       front_then so_far.tokens (lexed.token ∷ []) nothing_read
       ∙ (ap (option_and_then (steps_on (lexed.token ∷ []))) so_far.read ∙ ap (option_and_then (λ (r : Reading). Some r)) (sym e)) in
@@ -148,7 +148,7 @@ so_far_unended text at reading so_far ends e = (refl, λ tree is. no_tree tree i
 
   no_tree : (tree : Tree) → IsExpression text tree → ⊥
   no_tree tree is =
-      let b = behind_front so_far.tokens (spelling tree) text (drop at text) all_read so_far.leads is.spelled in
+      let b = after_front so_far.tokens (spelling tree) text (drop at text) all_read so_far.leads is.spelled in
       let front : parsed (so_far.tokens ++ b.more) ≡ None =
       ap (λ (zs : List ExpressionToken). parsed (so_far.tokens ++ zs)) (no_more b.more b.row)
       ∙ (ap (option_and_then ended) (front_then so_far.tokens [] nothing_read)

@@ -13,13 +13,13 @@ use Rattle.source_types.specs.declared.expressions.UnaryOperator.{UnaryOperator}
 use Rattle.source_types.specs.declared.expressions.UnaryOperator.TheVariants.{Minus, Not, Plus}
 use Rattle.tcl_eval.specs.declared.waiting.Waiting.{Waiting}
 use Rattle.tcl_eval.specs.declared.waiting.Waiting.TheVariants as waiting
-use Rattle.sdc_model.specs.ExpressionForm.{IsGrouped, Tree, binary, binding, levels_of, number, parentheses, spelling, tightness, unary, unary_binding, unary_token, word}
+use Rattle.tcl_model.specs.ExpressionForm.{IsGrouped, Tree, binary, binding, levels_of, number, parentheses, spelling, tightness, unary, unary_binding, unary_token, word}
 use Rattle.tcl_eval.specs.ExpressionReading.{Settled, closed, ended, nothing_read, parsed, reading, settled, step, steps_on, whole}
-use Rattle.sdc_model.specs.ExpressionSteps.{decision, kept, steps_of}
+use Rattle.tcl_model.specs.ExpressionSteps.{decision, kept, steps_of}
 
--- ---- what may stand behind what waits
+-- ---- what may stand after what waits
 
--- behind what waits a tree may stand that is bound so tightly
+-- after what waits a tree may stand that is bound so tightly
 abbrev pub Accepts : List Waiting → ℕ → Type 0
 Accepts [] n = Unit {0}
 Accepts (waiting.Open ∷ ws) n = Unit {0}

@@ -1,4 +1,4 @@
--- Steps of an expression that are run one after the other: whatever those behind give, all give.
+-- Steps of an expression that are run one after the other: whatever those after give, all give.
 use Rattle.std.proofs.Common.{◌≡◌, ◌≤◌, ◌+◌, ℕ, List, [], ◌∷◌, Option, Some, None, Result, Ok, Err, refl, sym, ap, subst, inl, arith}
 use Rattle.sdc_base.specs.Gives.{Meets}
 use Rattle.sdc_base.specs.declared.memory.Stop.{Stop}
@@ -14,21 +14,21 @@ use Rattle.source_types.specs.declared.kinds.Kind.TheVariants.{Tcl}
 use Rattle.source_types.specs.declared.kinds.TclKind.{TclKind}
 use Rattle.source_types.specs.declared.kinds.TclKind.TheVariants.{BadExpr}
 use Rattle.timing_types.specs.declared.objects.Value.{Value}
-use Rattle.sdc_model.specs.ExpressionForm.{levels_of}
-use Rattle.sdc_model.specs.ExpressionRun.{RunsExpression, Turn, raised}
-use Rattle.sdc_model.specs.ExpressionSteps.{ParsesTo, steps_of}
-use Rattle.sdc_model.specs.ExpressionValue.{changed, computed, decided, joined}
-use Rattle.sdc_model.specs.HostCalls.{World, text_in}
-use Rattle.sdc_model.specs.NamedCommands.{ReadsWord}
-use Rattle.sdc_model.specs.Turns.{tcl_outcome}
-use Rattle.sdc_model.specs.WordValues.{Level, RunsWord}
+use Rattle.tcl_model.specs.ExpressionForm.{levels_of}
+use Rattle.tcl_model.specs.ExpressionRun.{RunsExpression, RunStep, raised}
+use Rattle.tcl_model.specs.ExpressionSteps.{ParsesTo, steps_of}
+use Rattle.tcl_model.specs.ExpressionValue.{changed, computed, decided, joined}
+use Rattle.tcl_model.specs.HostCalls.{World, text_in}
+use Rattle.tcl_model.specs.NamedCommands.{ReadsWord}
+use Rattle.tcl_model.specs.RunSteps.{tcl_outcome}
+use Rattle.tcl_model.specs.WordValues.{Level, RunsWord}
 use Rattle.tcl_eval.specs.StepsRun.{GoesOnDecided, GoesOnWith, RunsSteps, StepsOn, Takes, TakesDecision, TakesValue, ended}
 use Rattle.tcl_eval.specs.Worlds.{Does, as_answer}
 use Rattle.tcl_eval.proofs.StepsFacts.{steps_are_trees}
-use Rattle.tcl_eval.proofs.TurnFacts.{IsRaised, meets_raised}
+use Rattle.tcl_eval.proofs.RunStepFacts.{IsRaised, meets_raised}
 
 abbrev Reader : Type 0 → Type 1
-Reader State = ℕ → Word → Turn State (List ℕ)
+Reader State = ℕ → Word → RunStep State (List ℕ)
 
 -- ---- one step
 

@@ -9,14 +9,14 @@ use Rattle.source_types.specs.declared.expressions.ExpressionStep.TheVariants as
 use Rattle.source_types.specs.declared.expressions.Scalar.{Scalar}
 use Rattle.source_types.specs.declared.kinds.Kind.{Kind}
 use Rattle.source_types.specs.declared.kinds.TclKind.{TclKind}
-use Rattle.sdc_model.specs.ExpressionForm.{Tree, binary, number, parentheses, unary, word}
-use Rattle.sdc_model.specs.ExpressionRun.{Evaluates, RunsRight, Turn, as_scalar, raised}
-use Rattle.sdc_model.specs.ExpressionSteps.{decision, steps_of}
-use Rattle.sdc_model.specs.ExpressionValue.{changed, computed, decided, joined}
+use Rattle.tcl_model.specs.ExpressionForm.{Tree, binary, number, parentheses, unary, word}
+use Rattle.tcl_model.specs.ExpressionRun.{Evaluates, RunsRight, RunStep, as_scalar, raised}
+use Rattle.tcl_model.specs.ExpressionSteps.{decision, steps_of}
+use Rattle.tcl_model.specs.ExpressionValue.{changed, computed, decided, joined}
 use Rattle.tcl_eval.specs.StepsRun.{GoesOnDecided, GoesOnWith, RunsSteps, is_logical}
 
 abbrev Reader : Type 0 → Type 1
-Reader State = ℕ → Word → Turn State (List ℕ)
+Reader State = ℕ → Word → RunStep State (List ℕ)
 
 -- ---- operators by whether they may decide
 
@@ -59,25 +59,25 @@ passed Reads level (unary u t) k n ss values before given after h =
     (subst (λ (x : List ExpressionStep). RunsSteps Reads level (suc n) x values before given after) (append_assoc (steps_of k t) (made.Unary u ∷ []) ss) h)
 passed Reads level (binary op l r) k n ss values before given after h =
     let rest = steps_of k r ++ (made.Binary op ∷ ss) in
-    let behind_left : RunsSteps Reads level (suc n) (decision op ++ (steps_of k r ++ (made.Binary op ∷ ss))) values before given after =
+    let after_left : RunsSteps Reads level (suc n) (decision op ++ (steps_of k r ++ (made.Binary op ∷ ss))) values before given after =
     passed Reads level l k n (decision op ++ (steps_of k r ++ (made.Binary op ∷ ss))) values before given after
     (subst (λ (x : List ExpressionStep). RunsSteps Reads level (suc n) x values before given after) (of_sides (steps_of k l) (decision op) (steps_of k r) (made.Binary op ∷ []) ss) h) in
-    by_kind (λ m x. passed Reads level r k m (made.Binary op ∷ ss) values before given after x) (deciding op) behind_left where
+    by_kind (λ m x. passed Reads level r k m (made.Binary op ∷ ss) values before given after x) (deciding op) after_left where
       by_kind : ((m : ℕ) → RunsSteps Reads level (suc m) (steps_of k r ++ (made.Binary op ∷ ss)) values before given after → RunsSteps Reads level (suc m) (made.Binary op ∷ ss) values before given after) → Deciding op → RunsSteps Reads level (suc n) (decision op ++ (steps_of k r ++ (made.Binary op ∷ ss))) values before given after → RunsSteps Reads level (suc n) ss values before given after
       by_kind right (decides e logical) m =
-          let behind_decision : RunsSteps Reads level (suc (suc n)) (steps_of k r ++ (made.Binary op ∷ ss)) values before given after =
+          let after_decision : RunsSteps Reads level (suc (suc n)) (steps_of k r ++ (made.Binary op ∷ ss)) values before given after =
           subst (λ (d : List ExpressionStep). RunsSteps Reads level (suc n) (d ++ (steps_of k r ++ (made.Binary op ∷ ss))) values before given after) e m in
-          let behind_right = right (suc n) behind_decision in
-          rw logical at behind_right
+          let after_right = right (suc n) after_decision in
+          rw logical at after_right
       by_kind right (needs_both e logical none) m =
-          let behind_decision : RunsSteps Reads level (suc n) (steps_of k r ++ (made.Binary op ∷ ss)) values before given after =
+          let after_decision : RunsSteps Reads level (suc n) (steps_of k r ++ (made.Binary op ∷ ss)) values before given after =
           subst (λ (d : List ExpressionStep). RunsSteps Reads level (suc n) (d ++ (steps_of k r ++ (made.Binary op ∷ ss))) values before given after) e m in
-          let behind_right = right n behind_decision in
-          rw logical at behind_right
+          let after_right = right n after_decision in
+          rw logical at after_right
 
 -- ---- a tree that is run
 
--- the steps of a tree were run, and those behind it
+-- the steps of a tree were run, and those after it
 pub record Ran {State : Type 0} (Reads : Reader State) (level k : ℕ) (t : Tree) (ss : List ExpressionStep) (values : List Scalar) (before : State) (given : Result Scalar Kind) (after : State) : Type 0 where
   pub outcome : Result Scalar Kind
   pub between : State
@@ -141,13 +141,13 @@ ran {State = S} Reads level (binary op l r) k ss values before given after h =
         outcome = raised outcome;
         between = mid;
         evaluates = (Ok v, mid, e, subst (λ o. RunsRight (Evaluates Reads (level + k) r) op v o mid (raised outcome) mid) (sym some) (refl, refl));
-        onward = behind (raised outcome) go;
+        onward = later (raised outcome) go;
       } where
-        behind : (o : Result Scalar Kind) → GoesOnWith (λ w. RunsSteps Reads level 1 (steps_of k r ++ (made.Binary op ∷ ss)) (w ∷ values)) o mid given after → GoesOnWith (λ w. RunsSteps Reads level 0 ss (w ∷ values)) o mid given after
-        behind (Ok w) m =
+        later : (o : Result Scalar Kind) → GoesOnWith (λ w. RunsSteps Reads level 1 (steps_of k r ++ (made.Binary op ∷ ss)) (w ∷ values)) o mid given after → GoesOnWith (λ w. RunsSteps Reads level 0 ss (w ∷ values)) o mid given after
+        later (Ok w) m =
             let passed_right = passed Reads level r k 0 (made.Binary op ∷ ss) (w ∷ values) mid given after m in
             rw logical at passed_right
-        behind (Err fault) m = m
+        later (Err fault) m = m
 
       -- by what the left side decides
       by_decided : ((v : Scalar) (mid : S) → RunsSteps Reads level 0 (steps_of k r ++ (made.Binary op ∷ ss)) (v ∷ values) mid given after → Ran Reads level k r (made.Binary op ∷ ss) (v ∷ values) mid given after) → (v : Scalar) (mid : S) (o : Option (Result Scalar TclKind)) → is_logical op ≡ true → decided op v ≡ o → Evaluates Reads (level + k) l before (Ok v) mid → GoesOnDecided (λ n w. RunsSteps Reads level n (steps_of k r ++ (made.Binary op ∷ ss)) (w ∷ values)) v o mid given after → Ran Reads level k (binary op l r) ss values before given after

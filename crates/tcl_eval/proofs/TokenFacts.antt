@@ -8,11 +8,11 @@ use Rattle.sdc_base.specs.Gives.{Meets}
 use Rattle.sdc_base.specs.declared.memory.Stop.{Stop}
 use Rattle.sdc_base.specs.declared.memory.Stop.TheVariants.{NoMemory, Refused}
 use Rattle.source_types.specs.declared.kinds.TclKind.{TclKind}
-use Rattle.sdc_model.specs.Bytes.{before, is_digit}
-use Rattle.sdc_model.specs.Enclosed.{behind_brace}
-use Rattle.sdc_model.specs.ExpressionTokens.{IsBracedToken, IsQuotedToken, IsTokenOf, Lexeme, StandsToken, TokenFront, behind_number, brace_opens, bracket_opens, closed_word, dollar_opens, from_token, is_passed, lexeme, all_read, number_opens, number_token, operator_front, other_byte, quote_opens, script_token, text_end, variable_token}
-use Rattle.sdc_model.specs.Pieces as grammar
-use Rattle.sdc_model.specs.Row.{HasOne, found, stops}
+use Rattle.text_model.specs.Bytes.{before, is_digit}
+use Rattle.text_model.specs.Enclosed.{after_brace}
+use Rattle.tcl_model.specs.ExpressionTokens.{IsBracedToken, IsQuotedToken, IsTokenOf, Lexeme, StandsToken, TokenFront, after_number, brace_opens, bracket_opens, closed_word, dollar_opens, from_token, is_passed, lexeme, all_read, number_opens, number_token, operator_front, other_byte, quote_opens, script_token, text_end, variable_token}
+use Rattle.tcl_model.specs.Pieces as grammar
+use Rattle.text_model.specs.Row.{HasOne, found, stops}
 use Rattle.tcl_words.specs.declared.spelled.Spelled.{Spelled}
 use Rattle.tcl_words.specs.Operands.{IsFront, OperandAt}
 use Rattle.tcl_words.specs.Spans.{Keeps, LeadsTo}
@@ -94,10 +94,10 @@ word_found Stands text at r s e m = subst (λ (x : Result Lexed (Stop TclKind)).
   as_token (Err (Refused kind)) m = m
   as_token (Err NoMemory) m = tt
 
-pub brace_begins : (text : List ℕ) (at : ℕ) (r : Result Spelled (Stop TclKind)) (s : Result Lexed (Stop TclKind)) → at < length text → get_or text at 0 ≡ 123 → s ≡ word_token r → Meets r (OperandAt (IsBracedToken (drop (at + 1) text) (behind_brace (drop (at + 1) text))) text at) → Meets s (LexedAt (IsTokenOf (lexeme (drop at text)) (drop at text)) text at)
+pub brace_begins : (text : List ℕ) (at : ℕ) (r : Result Spelled (Stop TclKind)) (s : Result Lexed (Stop TclKind)) → at < length text → get_or text at 0 ≡ 123 → s ≡ word_token r → Meets r (OperandAt (IsBracedToken (drop (at + 1) text) (after_brace (drop (at + 1) text))) text at) → Meets s (LexedAt (IsTokenOf (lexeme (drop at text)) (drop at text)) text at)
 brace_begins text at r s within b e m =
     lexeme_here text at (brace_opens (drop (at + 1) text)) s (byte_is text at 123 within b)
-    (word_found (IsBracedToken (drop (at + 1) text) (behind_brace (drop (at + 1) text))) text at r s e m)
+    (word_found (IsBracedToken (drop (at + 1) text) (after_brace (drop (at + 1) text))) text at r s e m)
 
 pub quote_begins : (text : List ℕ) (at : ℕ) (r : Result Spelled (Stop TclKind)) (s : Result Lexed (Stop TclKind)) → at < length text → get_or text at 0 ≡ 34 → s ≡ word_token r → Meets r (OperandAt (IsQuotedToken (drop (at + 1) text)) text at) → Meets s (LexedAt (IsTokenOf (lexeme (drop at text)) (drop at text)) text at)
 quote_begins text at r s within b e m =
@@ -127,7 +127,7 @@ number_lexeme b bs n p = rw (ne_eqb b 123 n.brace, ne_eqb b 34 n.quote, ne_eqb b
 other_lexeme : (b : ℕ) (bs : List ℕ) → NoWord b → (is_digit b || b == 46) ≡ false → lexeme (b ∷ bs) ≡ other_byte b bs
 other_lexeme b bs n p = rw (ne_eqb b 123 n.brace, ne_eqb b 34 n.quote, ne_eqb b 36 n.dollar, ne_eqb b 91 n.bracket, p) refl
 
-pub number_begins : (text : List ℕ) (at : ℕ) (r : Result Lexed TclKind) (s : Result Lexed (Stop TclKind)) → at < length text → (get_or text at 0 ≡ 123 → ⊥) → (get_or text at 0 ≡ 34 → ⊥) → (get_or text at 0 ≡ 36 → ⊥) → (get_or text at 0 ≡ 91 → ⊥) → (is_digit (get_or text at 0) || get_or text at 0 == 46) ≡ true → IsRefused r s → LexedAt (IsFront (number_token (drop at text) (behind_number (drop at text)))) text at r → Meets s (LexedAt (IsTokenOf (lexeme (drop at text)) (drop at text)) text at)
+pub number_begins : (text : List ℕ) (at : ℕ) (r : Result Lexed TclKind) (s : Result Lexed (Stop TclKind)) → at < length text → (get_or text at 0 ≡ 123 → ⊥) → (get_or text at 0 ≡ 34 → ⊥) → (get_or text at 0 ≡ 36 → ⊥) → (get_or text at 0 ≡ 91 → ⊥) → (is_digit (get_or text at 0) || get_or text at 0 == 46) ≡ true → IsRefused r s → LexedAt (IsFront (number_token (drop at text) (after_number (drop at text)))) text at r → Meets s (LexedAt (IsTokenOf (lexeme (drop at text)) (drop at text)) text at)
 number_begins text at r s within brace quote dollar bracket p e m =
     let n : NoWord (get_or text at 0) = record { brace = brace; quote = quote; dollar = dollar; bracket = bracket } in
     lexeme_here text at number_opens s (at_byte text at within ∙ number_lexeme (get_or text at 0) (drop (at + 1) text) n p)
@@ -139,18 +139,18 @@ other_begins text at r s within brace quote dollar bracket p e m =
     lexeme_here text at (other_byte (get_or text at 0) (drop (at + 1) text)) s (at_byte text at within ∙ other_lexeme (get_or text at 0) (drop (at + 1) text) n p)
     (meets_refusal r s (LexedAt (IsTokenOf (other_byte (get_or text at 0) (drop (at + 1) text)) (drop at text)) text at) e m)
 
--- ---- behind blanks
+-- ---- after blanks
 
 pub token_end : (text : List ℕ) (from at : ℕ) → LeadsTo text from at (from_token (drop from text)) → at ≡ length text → TokenFrom text from (Ok None)
 token_end text from at leads e =
     subst (λ (t : List ℕ). IsTokenOf (lexeme t) t (stops all_read)) (sym (leads.is ∙ drop_all text at e)) refl
 
-behind_blanks : (text : List ℕ) (from at : ℕ) (front : TokenFront) → LeadsTo text from at (from_token (drop from text)) → IsTokenOf (lexeme (drop at text)) (drop at text) front → StandsToken (drop from text) front
-behind_blanks text from at front leads stands = subst (λ (t : List ℕ). IsTokenOf (lexeme t) t front) (sym leads.is) stands
+after_blanks : (text : List ℕ) (from at : ℕ) (front : TokenFront) → LeadsTo text from at (from_token (drop from text)) → IsTokenOf (lexeme (drop at text)) (drop at text) front → StandsToken (drop from text) front
+after_blanks text from at front leads stands = subst (λ (t : List ℕ). IsTokenOf (lexeme t) t front) (sym leads.is) stands
 
 pub token_found : (text : List ℕ) (from at : ℕ) (lexed : Lexed) → IsUtf8 text → IsCharBoundary text from → LeadsTo text from at (from_token (drop from text)) → LexedAt (IsTokenOf (lexeme (drop at text)) (drop at text)) text at (Ok lexed) → TokenFrom text from (Ok (Some lexed))
 token_found text from at lexed utf8 cuts leads m =
-    (behind_blanks text from at (found lexed.token (drop lexed.end text)) leads m.0, omega (arith, leads.forward, m.1), m.2, m.3 utf8 (leads.keeps utf8 cuts))
+    (after_blanks text from at (found lexed.token (drop lexed.end text)) leads m.0, omega (arith, leads.forward, m.1), m.2, m.3 utf8 (leads.keeps utf8 cuts))
 
 -- ---- one token stands at a place
 
@@ -162,7 +162,7 @@ braced_once inside (Some rest) f g x y =
 
 token_of_once : (l : Lexeme) (bytes : List ℕ) (f g : TokenFront) → IsTokenOf l bytes f → IsTokenOf l bytes g → f ≡ g
 token_of_once text_end bytes f g x y = x ∙ sym y
-token_of_once (brace_opens inside) bytes f g x y = braced_once inside (behind_brace inside) f g x y
+token_of_once (brace_opens inside) bytes f g x y = braced_once inside (after_brace inside) f g x y
 token_of_once (quote_opens inside) bytes f g x y =
     let one = pieces_once grammar.quoted x.0 y.0 inside x.1 y.1 x.2 y.2 in
     x.3 ∙ (ap (λ ps. closed_word ps x.1) one.0 ∙ (ap (λ e. closed_word y.0 e) one.1 ∙ sym y.3))

@@ -14,7 +14,7 @@ use Rattle.source_types.specs.declared.expressions.UnaryOperator.{UnaryOperator}
 use Rattle.source_types.specs.declared.expressions.UnaryOperator.TheVariants.{Minus, Not, Plus}
 use Rattle.tcl_eval.specs.declared.waiting.Waiting.{Waiting}
 use Rattle.tcl_eval.specs.declared.waiting.Waiting.TheVariants as waiting
-use Rattle.sdc_model.specs.ExpressionForm.{IsGrouped, Tree, binding, number, parentheses, spelling, tightness, unary_binding, unary_token, word}
+use Rattle.tcl_model.specs.ExpressionForm.{IsGrouped, Tree, binding, number, parentheses, spelling, tightness, unary_binding, unary_token, word}
 use Rattle.tcl_eval.specs.ExpressionReading.{Reading, closed, ended, nothing_read, parsed, reading, settled, sign_of, step, steps_on, whole, with_binary, with_close, with_open, with_operand, with_operator, with_unary}
 use Rattle.tcl_eval.proofs.Frames.{AreFrames, Frame, Reduced, accepts_tight, left, of_three, opened, prefix, reduced, spelled, waits_of}
 use Rattle.tcl_eval.proofs.ReadTrees.{Accepts, binding_low}
@@ -105,7 +105,7 @@ open_read tokens r next (Some t) read e =
     let p = guarded r.due (reading r.steps (waiting.Open ∷ r.waits) (suc r.levels) (max r.deepest (suc r.levels)) true) next e in
     true_false r.due p.0 (sym read.due)
 
--- what stands behind an operand, when all is done that binds so tightly
+-- what stands after an operand, when all is done that binds so tightly
 reduced_here : (b : ℕ) → b ≤ unary_binding → (tokens : List ExpressionToken) (r : Reading) (t : Tree) (read : Read tokens r (Some t)) → Reduced b read.frames t (settled b r.steps r.waits).waits
 reduced_here b low tokens r t read =
     subst (λ (ws : List Waiting). Reduced b read.frames t (settled b r.steps ws).waits) read.waits
@@ -231,10 +231,10 @@ steps_read : (ts tokens : List ExpressionToken) (r : Reading) (operand : Option 
 steps_read [] tokens r operand read e h = subst Spells (sym (append-nil tokens)) (ended_read tokens r operand read e h)
 steps_read (x ∷ ts) tokens r operand read e h = on_step (λ next o more f. steps_read ts (tokens ++ x ∷ []) next o more e f) (step r x) refl h where
   on_step : ((next : Reading) (o : Option Tree) → Read (tokens ++ x ∷ []) next o → option_and_then ended (steps_on ts next) ≡ Some e → Spells ((tokens ++ x ∷ []) ++ ts)) → (o : Option Reading) → step r x ≡ o → option_and_then ended (option_and_then (steps_on ts) o) ≡ Some e → Spells (tokens ++ x ∷ ts)
-  on_step behind None s f = absurd (cc)
-  on_step behind (Some next) s f =
+  on_step after None s f = absurd (cc)
+  on_step after (Some next) s f =
       let more = step_read x tokens r next operand read s in
-      subst Spells (append_assoc tokens (x ∷ []) ts) (behind next more.0 more.1 f)
+      subst Spells (append_assoc tokens (x ∷ []) ts) (after next more.0 more.1 f)
 
 pub parsed_spells : (tokens : List ExpressionToken) (e : Expression) → parsed tokens ≡ Some e → Spells tokens
 parsed_spells tokens e h =

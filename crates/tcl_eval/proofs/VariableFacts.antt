@@ -5,8 +5,8 @@ use Rattle.std.specs.Str.{bytes_eq}
 use Rattle.std.specs.Prelude.{string_eq}
 use Rattle.indexmap.specs.IndexMap.{insert_entry}
 use Rattle.timing_types.specs.declared.objects.Value.{Value}
-use Rattle.sdc_model.specs.Variables.{variable_in, with_variable}
-use Rattle.sdc_model.specs.Words.{same_text}
+use Rattle.tcl_model.specs.Variables.{variable_in, with_variable}
+use Rattle.text_model.specs.Words.{same_text}
 use Rattle.tcl_eval.specs.VariableMaps.{variable_of, variables_of}
 
 pub found : {A : Type 0} (entries : List (String A × Value)) (name : List ℕ) → lookup (λ k. bytes_eq name (string_bytes k)) entries ≡ variable_in (variables_of entries) name

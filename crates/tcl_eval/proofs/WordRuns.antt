@@ -1,4 +1,4 @@
--- Words of a command, and parts of a word, that are run one after the other: whatever those behind give, all give.
+-- Words of a command, and parts of a word, that are run one after the other: whatever those after give, all give.
 use Rattle.std.proofs.Common.{◌≡◌, ◌++◌, ◌-◌, ℕ, zero, suc, true, false, List, [], ◌∷◌, length, Result, Ok, Err, refl, sym, subst, arith, append-nil}
 use Rattle.sdc_base.specs.Gives.{Gives}
 use Rattle.sdc_base.specs.declared.memory.Stop.{Stop}
@@ -8,13 +8,13 @@ use Rattle.source_types.specs.declared.commands.Word.{Word}
 use Rattle.source_types.specs.declared.kinds.Kind.{Kind}
 use Rattle.timing_types.specs.declared.objects.Value.{Value}
 use Rattle.timing_types.specs.declared.objects.Value.TheVariants as value
-use Rattle.sdc_model.specs.Bytes.{is_index}
-use Rattle.sdc_model.specs.HostCalls.{Host, World, text_in}
-use Rattle.sdc_model.specs.ScriptRun.{Enters, RunsBracket, RunsWithin}
-use Rattle.sdc_model.specs.WordValues.{Level, RunsJoined, RunsPart, RunsParts, RunsWord, RunsWords, in_body, in_bracket}
+use Rattle.text_model.specs.Bytes.{is_index}
+use Rattle.tcl_model.specs.HostCalls.{Host, World, text_in}
+use Rattle.tcl_model.specs.ScriptRun.{Enters, RunsBracket, RunsWithin}
+use Rattle.tcl_model.specs.WordValues.{Level, RunsJoined, RunsPart, RunsParts, RunsWord, RunsWords, in_body, in_bracket}
 use Rattle.tcl_eval.specs.Worlds.{Does, index_outcome}
 use Rattle.tcl_eval.proofs.CommandRuns.{level_at}
-use Rattle.tcl_eval.proofs.TurnFacts.{in_front, in_front_more, others_given}
+use Rattle.tcl_eval.proofs.RunStepFacts.{in_front, in_front_more, others_given}
 
 -- ---- words
 
@@ -90,18 +90,18 @@ index_given host line (suc left) zero script w given index e =
     subst (λ i. RunsBracket (level_at host line left) script i w given w) (sym index) (e, refl)
 index_given host line (suc left) (suc inside) script w given index e = index_given host line left inside script w given index e
 
-bracket_given : {State : Type 0} (host : Host State) (line left inside behind : ℕ) (script : List ℕ) (before : World State) (given : Result Value Kind) (after : World State)
-    → is_index script ≡ false → behind ≡ left - inside → Enters host line behind 0 (in_body script) before given after → Enters host line left inside (in_bracket script) before given after
-bracket_given host line zero inside behind script before given after other e h =
-    let none : behind ≡ 0 = omega (arith, e) in
+bracket_given : {State : Type 0} (host : Host State) (line left inside later : ℕ) (script : List ℕ) (before : World State) (given : Result Value Kind) (after : World State)
+    → is_index script ≡ false → later ≡ left - inside → Enters host line later 0 (in_body script) before given after → Enters host line left inside (in_bracket script) before given after
+bracket_given host line zero inside later script before given after other e h =
+    let none : later ≡ 0 = omega (arith, e) in
     subst (λ n. Enters host line n 0 (in_body script) before given after) none h
-bracket_given host line (suc left) zero behind script before given after other e h =
-    let same : behind ≡ suc left = omega (arith, e) in
+bracket_given host line (suc left) zero later script before given after other e h =
+    let same : later ≡ suc left = omega (arith, e) in
     let within : RunsWithin (level_at host line left) script before given after = subst (λ n. Enters host line n 0 (in_body script) before given after) same h in
     subst (λ i. RunsBracket (level_at host line left) script i before given after) (sym other) within
-bracket_given host line (suc left) (suc inside) behind script before given after other e h =
-    let less : behind ≡ left - inside = omega (arith, e) in
-    bracket_given host line left inside behind script before given after other less h
+bracket_given host line (suc left) (suc inside) later script before given after other e h =
+    let less : later ≡ left - inside = omega (arith, e) in
+    bracket_given host line left inside later script before given after other less h
 
 -- an index that is inside so many parentheses
 pub index_run : {State : Type 0} (host : Host State) (line left inside : ℕ) (script : List ℕ) (w : World State) (r : Result Value (Stop Kind))
@@ -111,8 +111,8 @@ index_run host line left inside script w (Err (stop.Refused kind)) index h = ind
 index_run host line left inside script w (Err stop.NoMemory) index h = tt
 
 -- any other script is run where its parentheses end
-pub bracket_run : {State : Type 0} (host : Host State) (line left inside behind : ℕ) (script : List ℕ) (before after : World State) (r : Result Value (Stop Kind))
-    → is_index script ≡ false → behind ≡ left - inside → Does (Enters host line behind 0 (in_body script)) before r after → Does (Enters host line left inside (in_bracket script)) before r after
-bracket_run host line left inside behind script before after (Ok v) other e h = bracket_given host line left inside behind script before (Ok v) after other e h
-bracket_run host line left inside behind script before after (Err (stop.Refused kind)) other e h = bracket_given host line left inside behind script before (Err kind) after other e h
-bracket_run host line left inside behind script before after (Err stop.NoMemory) other e h = tt
+pub bracket_run : {State : Type 0} (host : Host State) (line left inside later : ℕ) (script : List ℕ) (before after : World State) (r : Result Value (Stop Kind))
+    → is_index script ≡ false → later ≡ left - inside → Does (Enters host line later 0 (in_body script)) before r after → Does (Enters host line left inside (in_bracket script)) before r after
+bracket_run host line left inside later script before after (Ok v) other e h = bracket_given host line left inside later script before (Ok v) after other e h
+bracket_run host line left inside later script before after (Err (stop.Refused kind)) other e h = bracket_given host line left inside later script before (Err kind) after other e h
+bracket_run host line left inside later script before after (Err stop.NoMemory) other e h = tt

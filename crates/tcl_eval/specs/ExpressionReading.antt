@@ -13,10 +13,10 @@ use Rattle.source_types.specs.declared.expressions.UnaryOperator.{UnaryOperator}
 use Rattle.source_types.specs.declared.expressions.UnaryOperator.TheVariants.{Minus, Not, Plus}
 use Rattle.tcl_eval.specs.declared.waiting.Waiting.{Waiting}
 use Rattle.tcl_eval.specs.declared.waiting.Waiting.TheVariants as waiting
-use Rattle.sdc_model.specs.ExpressionForm.{binding}
-use Rattle.sdc_model.specs.ExpressionSteps.{decision}
+use Rattle.tcl_model.specs.ExpressionForm.{binding}
+use Rattle.tcl_model.specs.ExpressionSteps.{decision}
 
--- steps that are done, and what waits behind them, the last one first
+-- steps that are done, and what waits after them, the last one first
 pub record Settled : Type 0 where
   pub steps : List ExpressionStep
   pub waits : List Waiting
@@ -65,7 +65,7 @@ with_open r =
     if r.due then Some (reading r.steps (waiting.Open ∷ r.waits) (suc r.levels) (max r.deepest (suc r.levels)) true)
     else None
 
--- behind all that is done before `)`, its `(`
+-- after all that is done before `)`, its `(`
 abbrev pub closed : ℕ → ℕ → List ExpressionStep → List Waiting → Option Reading
 closed levels deepest steps [] = None
 closed levels deepest steps (waiting.Unary u ∷ ws) = None

@@ -7,11 +7,11 @@ use Rattle.source_types.specs.declared.expressions.Expression.{Expression}
 use Rattle.source_types.specs.declared.kinds.Kind.{Kind}
 use Rattle.source_types.specs.declared.kinds.TclKind.{TclKind}
 use Rattle.timing_types.specs.declared.objects.Value.{Value}
-use Rattle.sdc_model.specs.ExpressionForm.{IsExpression, Tree}
-use Rattle.sdc_model.specs.ExpressionRun.{Turn}
-use Rattle.sdc_model.specs.ExpressionSteps.{ParsesTo}
-use Rattle.sdc_model.specs.HostCalls.{Answered, Host}
-use Rattle.sdc_model.specs.ScriptRun.{Runs}
+use Rattle.tcl_model.specs.ExpressionForm.{IsExpression, Tree}
+use Rattle.tcl_model.specs.ExpressionRun.{RunStep}
+use Rattle.tcl_model.specs.ExpressionSteps.{ParsesTo}
+use Rattle.tcl_model.specs.HostCalls.{Answered, Host}
+use Rattle.tcl_model.specs.ScriptRun.{Runs}
 
 -- two trees of a text are one
 abbrev pub HasOneTree : List ℕ → Type 0
@@ -21,12 +21,12 @@ HasOneTree text = (t u : Tree) → IsExpression text t → IsExpression text u �
 abbrev pub HasOneParse : List ℕ → Type 0
 HasOneParse text = (r s : Result Expression TclKind) → ParsesTo text r → ParsesTo text s → r ≡ s
 
--- a turn has one outcome and leaves one state
-abbrev pub IsOne : {S A : Type 0} → Turn S A → Type 0
+-- a step has one outcome and leaves one state
+abbrev pub IsOne : {S A : Type 0} → RunStep S A → Type 0
 IsOne {S = S} {A = A} Does =
     (before : S) (a b : Result A Kind) (x y : S) → Does before a x → Does before b y → (a ≡ b) × (x ≡ y)
 
--- a host has one answer to each call, and is left in one state behind it
+-- a host has one answer to each call, and is left in one state after it
 abbrev pub HostIsOne : {S : Type 0} → Host S → Type 0
 HostIsOne host = (line : ℕ) (name : List ℕ) (words : List Value) → IsOne (Answered (host.Answers line name words))
 

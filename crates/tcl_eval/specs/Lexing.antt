@@ -7,8 +7,8 @@ use Rattle.source_types.specs.declared.expressions.BinaryOperator.{BinaryOperato
 use Rattle.source_types.specs.declared.expressions.ExpressionToken.TheVariants as token
 use Rattle.source_types.specs.declared.kinds.TclKind.{TclKind}
 use Rattle.source_types.specs.declared.kinds.TclKind.TheVariants.{BadExpr}
-use Rattle.sdc_model.specs.ExpressionTokens.{StandsToken, TokenFront, all_read, malformed, operator_front, single, single_front}
-use Rattle.sdc_model.specs.Row.{found, stops}
+use Rattle.tcl_model.specs.ExpressionTokens.{StandsToken, TokenFront, all_read, malformed, operator_front, single, single_front}
+use Rattle.text_model.specs.Row.{found, stops}
 use Rattle.tcl_words.specs.declared.spelled.Spelled.{Spelled}
 use Rattle.tcl_words.specs.Spans.{Keeps}
 use Rattle.tcl_eval.specs.declared.lexed.Lexed.{Lexed}
@@ -19,7 +19,7 @@ LexedAt Stands text at (Ok lexed) =
     Stands (found lexed.token (drop lexed.end text)) × (at < lexed.end) × (lexed.end ≤ length text) × Keeps text at lexed.end
 LexedAt Stands text at (Err kind) = (kind ≡ BadExpr) × Stands (stops malformed)
 
--- the first token at or behind a place, or the end of the text, or neither
+-- the first token at or after a place, or the end of the text, or neither
 abbrev pub TokenFrom : List ℕ → ℕ → Result (Option Lexed) TclKind → Type 0
 TokenFrom text from (Ok None) = StandsToken (drop from text) (stops all_read)
 TokenFrom text from (Ok (Some lexed)) =

@@ -6,16 +6,16 @@ use Rattle.source_types.specs.declared.kinds.Kind.{Kind}
 use Rattle.source_types.specs.declared.kinds.Kind.TheVariants.{Tcl}
 use Rattle.source_types.specs.declared.kinds.TclKind.{TclKind}
 use Rattle.timing_types.specs.declared.objects.Value.{Value}
-use Rattle.sdc_model.specs.Commands.{Place, StandsCommand}
-use Rattle.sdc_model.specs.HostCalls.{Host, World}
-use Rattle.sdc_model.specs.Row.{found, stops}
-use Rattle.sdc_model.specs.ScriptRun.{RunsCommand, outermost}
+use Rattle.tcl_model.specs.Commands.{Place, StandsCommand}
+use Rattle.tcl_model.specs.HostCalls.{Host, World}
+use Rattle.text_model.specs.Row.{found, stops}
+use Rattle.tcl_model.specs.ScriptRun.{RunsCommand, outermost}
 
 -- the beginning of a script
 abbrev pub beginning : List ℕ → Place
 beginning script = record { text = script; line = 1 }
 
--- what stands at a place: a command with the place behind it, or none, or a fault
+-- what stands at a place: a command with the place after it, or none, or a fault
 abbrev pub CommandFrom : Place → Result (Option Command) (At TclKind) → Place → Type 0
 CommandFrom place (Ok None) next = StandsCommand place (stops None)
 CommandFrom place (Ok (Some command)) next = StandsCommand place (found command next)

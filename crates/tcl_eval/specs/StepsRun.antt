@@ -13,8 +13,8 @@ use Rattle.source_types.specs.declared.kinds.Kind.{Kind}
 use Rattle.source_types.specs.declared.kinds.Kind.TheVariants.{Tcl}
 use Rattle.source_types.specs.declared.kinds.TclKind.{TclKind}
 use Rattle.source_types.specs.declared.kinds.TclKind.TheVariants.{BadExpr}
-use Rattle.sdc_model.specs.ExpressionRun.{Turn, as_scalar, raised}
-use Rattle.sdc_model.specs.ExpressionValue.{changed, computed, decided, joined}
+use Rattle.tcl_model.specs.ExpressionRun.{RunStep, as_scalar, raised}
+use Rattle.tcl_model.specs.ExpressionValue.{changed, computed, decided, joined}
 
 -- the operators that may decide by their left side
 abbrev pub is_logical : BinaryOperator → Bool
@@ -38,7 +38,7 @@ abbrev pub one_less : ℕ → ℕ
 one_less zero = zero
 one_less (suc n) = n
 
--- how many operators are still to come behind a step that is passed over
+-- how many operators are still to come after a step that is passed over
 abbrev pub passing : ExpressionStep → ℕ → ℕ
 passing (step.Number n) passed = passed
 passing (step.Word w levels) passed = passed
@@ -47,21 +47,21 @@ passing (step.Decide op) passed = suc passed
 passing (step.Binary op) passed = if is_logical op then one_less passed else passed
 
 -- on with a value, or the fault that stands in its place
-abbrev pub GoesOnWith : {State : Type 0} → (Scalar → Turn State Scalar) → Result Scalar Kind → Turn State Scalar
+abbrev pub GoesOnWith : {State : Type 0} → (Scalar → RunStep State Scalar) → Result Scalar Kind → RunStep State Scalar
 GoesOnWith Next (Ok v) before given after = Next v before given after
 GoesOnWith Next (Err fault) before given after = (given ≡ Err fault) × (after ≡ before)
 
--- behind the left side of `&&` or `||`: on with its value, or with what it decides behind the right side
-abbrev pub GoesOnDecided : {State : Type 0} → (ℕ → Scalar → Turn State Scalar) → Scalar → Option (Result Scalar TclKind) → Turn State Scalar
+-- after the left side of `&&` or `||`: on with its value, or with what it decides after the right side
+abbrev pub GoesOnDecided : {State : Type 0} → (ℕ → Scalar → RunStep State Scalar) → Scalar → Option (Result Scalar TclKind) → RunStep State Scalar
 GoesOnDecided Next left None before given after = Next 0 left before given after
 GoesOnDecided Next left (Some outcome) before given after = GoesOnWith (Next 1) (raised outcome) before given after
 
 -- steps that are no expression's
-abbrev pub Malformed : {State : Type 0} → Turn State Scalar
+abbrev pub Malformed : {State : Type 0} → RunStep State Scalar
 Malformed before given after = (given ≡ Err (Tcl BadExpr)) × (after ≡ before)
 
 -- what steps give, passing over those of so many operators
-abbrev pub RunsSteps : {State : Type 0} → (ℕ → Word → Turn State (List ℕ)) → ℕ → ℕ → List ExpressionStep → List Scalar → Turn State Scalar
+abbrev pub RunsSteps : {State : Type 0} → (ℕ → Word → RunStep State (List ℕ)) → ℕ → ℕ → List ExpressionStep → List Scalar → RunStep State Scalar
 RunsSteps Reads level passed [] [] before given after = Malformed before given after
 RunsSteps Reads level passed [] (v ∷ []) before given after = (given ≡ Ok v) × (after ≡ before)
 RunsSteps Reads level passed [] (v ∷ w ∷ values) before given after = Malformed before given after
@@ -82,14 +82,14 @@ RunsSteps Reads level zero (step.Binary op ∷ ss) (v ∷ []) before given after
 RunsSteps Reads level zero (step.Binary op ∷ ss) (right ∷ left ∷ values) before given after =
     GoesOnWith (λ w. RunsSteps Reads level 0 ss (w ∷ values)) (raised (joined op left right)) before given after
 
--- a value that was made, or its fault, behind values: of so many operators the steps are then passed over
+-- a value that was made, or its fault, after values: of so many operators the steps are then passed over
 abbrev pub TakesValue : Result Scalar TclKind → List Scalar → ℕ → Result ℕ TclKind → List Scalar → Type 0
 TakesValue (Ok v) values passed (Ok next) new = (next ≡ passed) × (new ≡ v ∷ values)
 TakesValue (Ok v) values passed (Err kind) new = ⊥
 TakesValue (Err kind) values passed (Ok next) new = ⊥
 TakesValue (Err kind) values passed (Err other) new = other ≡ kind
 
--- behind the left side of `&&` or `||`, which it may decide
+-- after the left side of `&&` or `||`, which it may decide
 abbrev pub TakesDecision : Option (Result Scalar TclKind) → Scalar → List Scalar → Result ℕ TclKind → List Scalar → Type 0
 TakesDecision None left values given new = TakesValue (Ok left) values 0 given new
 TakesDecision (Some outcome) left values given new = TakesValue outcome values 1 given new
@@ -112,8 +112,8 @@ ended [] = Err BadExpr
 ended (v ∷ []) = Ok v
 ended (v ∷ w ∷ values) = Err BadExpr
 
--- what a step answers: whatever the steps behind it give, over the values that it left, all give, over those before it
-abbrev pub StepsOn : {State : Type 0} → (ℕ → Word → Turn State (List ℕ)) → ℕ → ExpressionStep → List Scalar → State → Result ℕ Kind → List Scalar → State → Type 0
+-- what a step answers: whatever the steps after it give, over the values that it left, all give, over those before it
+abbrev pub StepsOn : {State : Type 0} → (ℕ → Word → RunStep State (List ℕ)) → ℕ → ExpressionStep → List Scalar → State → Result ℕ Kind → List Scalar → State → Type 0
 StepsOn {State = S} Reads passed s old before (Ok next) new after =
     (ss : List ExpressionStep) (given : Result Scalar Kind) (last : S) → RunsSteps Reads 0 next ss new after given last → RunsSteps Reads 0 passed (s ∷ ss) old before given last
 StepsOn Reads passed s old before (Err fault) new after =

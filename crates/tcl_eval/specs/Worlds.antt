@@ -1,5 +1,5 @@
 -- What the functions of a run answer, over the worlds of the definitions. This project's own. A run's own part and the
--- state of its host are a world; what a function answers is what a turn gives from a world to another.
+-- state of its host are a world; what a function answers is what a step gives from a world to another.
 use Rattle.std.specs.Prelude.{◌≡◌, ◌<◌, ◌≤◌, ◌+◌, ◌++◌, ℕ, zero, suc, List, [], ◌∷◌, Result, Ok, Err}
 use Rattle.sdc_base.specs.Gives.{Meets}
 use Rattle.sdc_base.specs.declared.memory.At.{At}
@@ -11,10 +11,10 @@ use Rattle.source_types.specs.declared.kinds.TclKind.{TclKind}
 use Rattle.source_types.specs.declared.kinds.TclKind.TheVariants.{TooDeep, TooManyCommands}
 use Rattle.timing_types.specs.declared.objects.Value.{Value}
 use Rattle.timing_types.specs.declared.objects.Value.TheVariants as value
-use Rattle.sdc_model.specs.ExpressionRun.{Turn}
-use Rattle.sdc_model.specs.HostCalls.{Host, World}
-use Rattle.sdc_model.specs.ScriptRun.{Enters, most_commands}
-use Rattle.sdc_model.specs.WordValues as values
+use Rattle.tcl_model.specs.ExpressionRun.{RunStep}
+use Rattle.tcl_model.specs.HostCalls.{Host, World}
+use Rattle.tcl_model.specs.ScriptRun.{Enters, most_commands}
+use Rattle.tcl_model.specs.WordValues as values
 use Rattle.tcl_eval.specs.declared.progress.Level.{Level}
 use Rattle.tcl_eval.specs.declared.progress.Progress.{Progress}
 
@@ -26,9 +26,9 @@ world run state = record { variables = run.variables; host = state; begun = run.
 abbrev pub level_of : {State : Type 0} → Host State → Level → values.Level State
 level_of host level = record { host = host; line = level.line; left = level.left; Opens = Enters host level.line level.left }
 
--- a turn gives from a world to another what is answered
-abbrev pub Does : {State A : Type 0} → Turn (World State) A → World State → Result A (Stop Kind) → World State → Type 0
-Does Turns before result after = Meets result (λ given. Turns before given after)
+-- a step gives from a world to another what is answered
+abbrev pub Does : {State A : Type 0} → RunStep (World State) A → World State → Result A (Stop Kind) → World State → Type 0
+Does RunSteps before result after = Meets result (λ given. RunSteps before given after)
 
 -- an answer of a rule of Tcl as one of a run
 abbrev pub as_answer : {A : Type 0} → Result A (Stop TclKind) → Result A (Stop Kind)

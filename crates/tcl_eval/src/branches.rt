@@ -2,32 +2,32 @@
 
 ghost use Rattle.std.specs.Prelude.{◌≡◌, [], List, Some, IfOk};
 ghost use Rattle.source_types.specs.declared.built_ins.Branch.{Branch};
-ghost use Rattle.sdc_model.specs.Branches as spec;
-ghost use Rattle.tcl_eval.specs.BranchesRead.{said_behind, Steps};
+ghost use Rattle.tcl_model.specs.Branches as spec;
+ghost use Rattle.tcl_eval.specs.BranchesRead.{said_after, Steps};
 ghost use Rattle.tcl_eval.specs.declared.branches.Expects.TheVariants as expects;
 
 use sdc_base::{List, NoMemory, Text};
-use sdc_model::{Branch, Branches};
+use source_types::{Branch, Branches};
 use std::alloc::Global;
 
 /// What comes next in the words of an `if`.
-#[derive(Debug, Drop)]
+#[derive(Drop)]
 pub enum Expects {
     Condition,
     /// `then`, or the body of a condition.
     Then(Text),
     /// The body of a condition.
     Body(Text),
-    /// What stands behind a body.
-    Behind,
+    /// What stands after a body.
+    After,
     /// The last body.
     Last,
-    /// Nothing more, behind the last body.
+    /// Nothing more, after the last body.
     Nothing(Text),
 }
 
 /// Whether a word is `then`.
-#[tactic(auto, unfolding(sdc_model::specs::Branches::is_then))]
+#[tactic(auto, unfolding(tcl_model::specs::Branches::is_then))]
 fn is_then(word: &str) -> bool
     ensures { result ≡ spec.is_then word.now }
 {
@@ -35,7 +35,7 @@ fn is_then(word: &str) -> bool
 }
 
 /// Whether a word is `elseif`.
-#[tactic(auto, unfolding(sdc_model::specs::Branches::is_elseif))]
+#[tactic(auto, unfolding(tcl_model::specs::Branches::is_elseif))]
 fn is_elseif(word: &str) -> bool
     ensures { result ≡ spec.is_elseif word.now }
 {
@@ -43,16 +43,16 @@ fn is_elseif(word: &str) -> bool
 }
 
 /// Whether a word is `else`.
-#[tactic(auto, unfolding(sdc_model::specs::Branches::is_else))]
+#[tactic(auto, unfolding(tcl_model::specs::Branches::is_else))]
 fn is_else(word: &str) -> bool
     ensures { result ≡ spec.is_else word.now }
 {
     word == "else"
 }
 
-/// What comes next behind a word, which may end a branch; `None` where the word cannot stand there. The one error is
+/// What comes next after a word, which may end a branch; `None` where the word cannot stand there. The one error is
 /// want of memory.
-#[tactic(auto, using(crate::proofs::BranchFacts::condition_read, crate::proofs::BranchFacts::then_read, crate::proofs::BranchFacts::body_behind_condition, crate::proofs::BranchFacts::body_read, crate::proofs::BranchFacts::last_read, crate::proofs::BranchFacts::nothing_behind))]
+#[tactic(auto, using(crate::proofs::BranchFacts::condition_read, crate::proofs::BranchFacts::then_read, crate::proofs::BranchFacts::body_after_condition, crate::proofs::BranchFacts::body_read, crate::proofs::BranchFacts::last_read, crate::proofs::BranchFacts::nothing_after))]
 fn step(
     alloc: Global,
     branches: &mut List<Branch>,
@@ -72,26 +72,26 @@ fn step(
                 condition,
                 body: copy,
             })?;
-            Ok(Some(Expects::Behind))
+            Ok(Some(Expects::After))
         }
         Expects::Body(condition) => {
             branches.push(Branch {
                 condition,
                 body: copy,
             })?;
-            Ok(Some(Expects::Behind))
+            Ok(Some(Expects::After))
         }
-        Expects::Behind => Ok(Some(behind(word, copy))),
+        Expects::After => Ok(Some(after(word, copy))),
         Expects::Last => Ok(Some(Expects::Nothing(copy))),
         Expects::Nothing(_) => Ok(None),
     }
 }
 
-/// What comes next behind a word that stands behind a body.
-#[tactic(auto, using(crate::proofs::BranchFacts::elseif_read, crate::proofs::BranchFacts::else_read, crate::proofs::BranchFacts::last_behind))]
-fn behind(word: &str, copy: Text) -> Expects
+/// What comes next after a word that stands after a body.
+#[tactic(auto, using(crate::proofs::BranchFacts::elseif_read, crate::proofs::BranchFacts::else_read, crate::proofs::BranchFacts::last_after))]
+fn after(word: &str, copy: Text) -> Expects
     requires { copy ≡ word.now }
-    ensures { (branches : List Branch) → Steps branches expects.Behind word.now (Some result) branches }
+    ensures { (branches : List Branch) → Steps branches expects.After word.now (Some result) branches }
 {
     if is_elseif(word) {
         return Expects::Condition;
@@ -102,7 +102,7 @@ fn behind(word: &str, copy: Text) -> Expects
     Expects::Nothing(copy)
 }
 
-/// The branches that the words behind `if` say; `None` where they are too few or too many. The one error is want of
+/// The branches that the words after `if` say; `None` where they are too few or too many. The one error is want of
 /// memory.
 pub fn branches_of(alloc: Global, words: &[Text]) -> Result<Option<Branches>, NoMemory>
     ensures { IfOk result (λ said. said ≡ spec.branches_of words.now) }
@@ -119,12 +119,12 @@ pub fn branches_of(alloc: Global, words: &[Text]) -> Result<Option<Branches>, No
 }
 
 /// The branches that words say which end.
-#[tactic(auto, using(crate::proofs::BranchFacts::all_behind, crate::proofs::BranchFacts::all_last))]
+#[tactic(auto, using(crate::proofs::BranchFacts::all_after, crate::proofs::BranchFacts::all_last))]
 fn ended(branches: List<Branch>, expects: Expects) -> Option<Branches>
-    ensures { result ≡ said_behind branches expects [] }
+    ensures { result ≡ said_after branches expects [] }
 {
     match expects {
-        Expects::Behind => Some(Branches {
+        Expects::After => Some(Branches {
             branches,
             otherwise: None,
         }),

@@ -2,10 +2,10 @@
 
 ghost use Rattle.std.specs.Prelude.{◌≡◌, Ok, IfOk};
 ghost use Rattle.sdc_base.specs.Gives.{Gives, Meets};
-ghost use Rattle.sdc_model.specs.BuiltIns as spec;
-ghost use Rattle.sdc_model.specs.HostCalls.{text_in};
-ghost use Rattle.sdc_model.specs.NamedCommands.{Sets};
-ghost use Rattle.sdc_model.specs.Variables as variables;
+ghost use Rattle.tcl_model.specs.BuiltIns as spec;
+ghost use Rattle.tcl_model.specs.HostCalls.{text_in};
+ghost use Rattle.tcl_model.specs.NamedCommands.{Sets};
+ghost use Rattle.tcl_model.specs.Variables as variables;
 ghost use Rattle.tcl_eval.specs.Worlds.{Does, world};
 
 use crate::faults::{refuse, tcl_answer};
@@ -15,9 +15,10 @@ use crate::progress::Progress;
 use crate::texts::{no_text, text_value, text_values};
 use crate::values::expected;
 use sdc_base::{Duplicate, Fixed, List, NoMemory, Stop, Text};
-use sdc_model::{Kind, TclKind, Value};
+use source_types::{Kind, TclKind};
 use std::alloc::Global;
 use tcl_words::list_text;
+use timing_types::Value;
 
 /// The number 1 in units of 10^-9.
 const ONE: u128 = 1_000_000_000;

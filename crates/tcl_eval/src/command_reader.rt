@@ -5,7 +5,7 @@ ghost use Rattle.sdc_base.specs.Gives.{Meets};
 ghost use Rattle.tcl_eval.specs.ScriptReads.{CommandFrom, beginning};
 
 use sdc_base::{At, Stop};
-use sdc_model::{Command, TclKind};
+use source_types::{Command, TclKind};
 use std::alloc::Global;
 use std::marker::Model;
 use tcl_words::next_command;
@@ -21,7 +21,7 @@ pub struct CommandReader<'t> {
 impl<'t> Model for CommandReader<'t> {
     ghost use Rattle.std.specs.Prelude.{◌≤◌, drop, length};
     ghost use Rattle.std.specs.Str.{IsCharBoundary};
-    ghost use Rattle.sdc_model.specs.Commands.{Place};
+    ghost use Rattle.tcl_model.specs.Commands.{Place};
 
     ghost Value = { Place };
 

@@ -2,7 +2,7 @@
 
 ghost use Rattle.std.specs.Prelude.{◌≡◌, ◌<◌, length, IfOk, IfSome};
 ghost use Rattle.sdc_base.specs.Gives.{Meets};
-ghost use Rattle.sdc_model.specs.ScriptRun.{Runs};
+ghost use Rattle.tcl_model.specs.ScriptRun.{Runs};
 ghost use Rattle.tcl_eval.specs.ScriptReads.{CommandOutside, RunsOutside};
 ghost use Rattle.tcl_eval.specs.Worlds.{outside_answer, world};
 
@@ -11,8 +11,9 @@ use crate::hosts::Commands;
 use crate::progress::{Level, Progress};
 use crate::scripts::run_command;
 use sdc_base::{At, Stop};
-use sdc_model::{Command, Kind, Value};
+use source_types::{Command, Kind};
 use std::alloc::Global;
+use timing_types::Value;
 
 /// The next command of a script. Refused as `next_command` refuses.
 fn next_outside(

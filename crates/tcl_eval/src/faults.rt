@@ -6,7 +6,7 @@ ghost use Rattle.source_types.specs.declared.kinds.Kind.TheVariants as kinds;
 ghost use Rattle.tcl_eval.specs.Worlds.{as_answer};
 
 use sdc_base::Stop;
-use sdc_model::{Kind, TclKind};
+use source_types::{Kind, TclKind};
 
 /// A fault of a script.
 pub fn refuse(kind: TclKind) -> Stop<Kind>

@@ -2,10 +2,11 @@
 
 ghost use Rattle.std.specs.Prelude.{◌≡◌, IfOk};
 ghost use Rattle.sdc_base.specs.Gives.{Meets};
-ghost use Rattle.sdc_model.specs.HostCalls.{Answered, Host};
+ghost use Rattle.tcl_model.specs.HostCalls.{Answered, Host};
 
 use sdc_base::{List, NoMemory, Stop, Text};
-use sdc_model::{Kind, Object, Value};
+use source_types::Kind;
+use timing_types::{Object, Value};
 
 /// A host of a script: it answers each command that is not built in, and keeps its allocator.
 ///
@@ -21,7 +22,7 @@ pub trait Commands {
     /// The answers and the names.
     ghost host: { Host State };
 
-    /// Answers a command, by the line of the outermost command, its name and the values of the words behind the name.
+    /// Answers a command, by the line of the outermost command, its name and the values of the words after the name.
     /// Where it refuses for another cause than memory, the host is as it was; after want of memory nothing is said of
     /// it.
     fn call(&mut self, line: u32, name: &Text, words: &List<Value>) -> Result<Value, Stop<Kind>>

@@ -2,15 +2,16 @@
 
 ghost use Rattle.std.specs.Prelude.{◌≡◌, ◌++◌, ◌∷◌, [], IfOk};
 ghost use Rattle.std.specs.List.{list_all};
-ghost use Rattle.sdc_model.specs.Bytes as bytes;
+ghost use Rattle.text_model.specs.Bytes as bytes;
 ghost use Rattle.sdc_base.specs.Gives.{Gives};
 ghost use Rattle.timing_types.specs.declared.objects.Value.TheVariants as value;
 ghost use Rattle.tcl_eval.specs.Worlds.{index_outcome};
 
 use crate::faults::refuse;
 use sdc_base::{NoMemory, Stop, Text};
-use sdc_model::{Kind, TclKind, Value};
+use source_types::{Kind, TclKind};
 use std::alloc::Global;
+use timing_types::Value;
 
 /// Whether a byte is a part of an index.
 fn is_index_byte(byte: u8) -> bool

@@ -1,9 +1,9 @@
 //! What the readers of tokens answer.
 
-use sdc_model::ExpressionToken;
+use source_types::ExpressionToken;
 
 /// A token of an expression, and where it ends in bytes.
-#[derive(Debug, Drop)]
+#[derive(Drop)]
 pub struct Lexed {
     pub token: ExpressionToken,
     pub end: usize,

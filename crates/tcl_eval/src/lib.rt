@@ -1,6 +1,6 @@
 //! The run of a script (Tcl) over any host.
 //!
-//! It gives the layer above `eval`, which runs a script by the definitions of `sdc_model`, and the trait `Commands`, by
+//! It gives the layer above `eval`, which runs a script by the definitions of `tcl_model`, and the trait `Commands`, by
 //! which a host answers every command that is not built in. It leaves to others what a host's commands do.
 #![tactic(auto)]
 

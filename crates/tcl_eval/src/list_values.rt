@@ -2,14 +2,15 @@
 
 ghost use Rattle.std.specs.Prelude.{◌≡◌, ◌++◌, map, IfOk, OnOk};
 ghost use Rattle.sdc_base.specs.Gives.{Meets};
-ghost use Rattle.sdc_model.specs.BuiltIns as spec;
+ghost use Rattle.tcl_model.specs.BuiltIns as spec;
 ghost use Rattle.timing_types.specs.declared.objects.Value.TheVariants as value;
 ghost use Rattle.tcl_eval.specs.ListReads.{AddsItems};
 
 use sdc_base::{Duplicate, List, NoMemory, Stop, Text};
-use sdc_model::{Object, TclKind, Value};
+use source_types::TclKind;
 use std::alloc::Global;
 use tcl_words::list_items;
+use timing_types::{Object, Value};
 
 /// Texts as values. The one error is want of memory.
 fn text_items(alloc: Global, texts: &[Text]) -> Result<List<Value>, NoMemory>

@@ -1,12 +1,12 @@
 //! The commands by their names.
 
 ghost use Rattle.std.specs.Prelude.{◌≡◌};
-ghost use Rattle.sdc_model.specs.NamedCommands.{named};
+ghost use Rattle.tcl_model.specs.NamedCommands.{named};
 
-use sdc_model::CommandName;
+use source_types::CommandName;
 
 /// The command of a name.
-#[tactic(auto, unfolding(sdc_model::specs::NamedCommands::named))]
+#[tactic(auto, unfolding(tcl_model::specs::NamedCommands::named))]
 pub fn command_name(name: &str) -> CommandName
     ensures { result ≡ named name.now }
 {

@@ -2,22 +2,22 @@
 
 ghost use Rattle.std.specs.Prelude.{◌≡◌, ◌<◌, ◌≤◌, ◌==◌, ◌||◌, true, length, drop, slice_index};
 ghost use Rattle.std.specs.Str.{IsCharBoundary};
-ghost use Rattle.sdc_model.specs.Bytes.{behind, is_digit};
-ghost use Rattle.sdc_model.specs.ExpressionTokens.{begins_digits, behind_decimals, behind_exponent, behind_number, behind_sign, number_token};
+ghost use Rattle.text_model.specs.Bytes.{after, is_digit};
+ghost use Rattle.tcl_model.specs.ExpressionTokens.{begins_digits, after_decimals, after_exponent, after_number, after_sign, number_token};
 ghost use Rattle.tcl_words.specs.Operands.{IsFront};
 ghost use Rattle.tcl_words.specs.Spans.{LeadsTo};
 ghost use Rattle.tcl_eval.specs.Lexing.{LexedAt};
 
 use crate::lexed::Lexed;
 use sdc_base::{Fixed, NumberError};
-use sdc_model::{ExpressionToken, TclKind};
+use source_types::{ExpressionToken, TclKind};
 use tcl_words::stands_at;
 
-/// The place behind the digits that stand at a place.
+/// The place after the digits that stand at a place.
 #[tactic(auto, using(crate::proofs::NumberFacts::digits_lead))]
 fn digits_end(bytes: &[u8], from: usize) -> usize
     requires { from ≤ length bytes.now }
-    ensures { LeadsTo bytes.now from result (behind is_digit (drop from bytes.now)) }
+    ensures { LeadsTo bytes.now from result (after is_digit (drop from bytes.now)) }
 {
     let mut at = from;
     while at < bytes.len() && bytes[at].is_ascii_digit() {
@@ -33,11 +33,11 @@ fn digit_at(bytes: &[u8], at: usize) -> bool
     at < bytes.len() && bytes[at].is_ascii_digit()
 }
 
-/// The place behind a point and its decimals, where a point stands at a place.
+/// The place after a point and its decimals, where a point stands at a place.
 #[tactic(auto, using(crate::proofs::NumberFacts::decimals_none, crate::proofs::NumberFacts::decimals_some))]
 fn decimals_end(bytes: &[u8], at: usize) -> usize
     requires { at ≤ length bytes.now }
-    ensures { LeadsTo bytes.now at result (behind_decimals (drop at bytes.now)) }
+    ensures { LeadsTo bytes.now at result (after_decimals (drop at bytes.now)) }
 {
     if !stands_at(bytes, at, b'.') {
         return at;
@@ -45,11 +45,11 @@ fn decimals_end(bytes: &[u8], at: usize) -> usize
     digits_end(bytes, at + 1)
 }
 
-/// The place behind a sign, where one stands at a place.
+/// The place after a sign, where one stands at a place.
 #[tactic(auto, using(crate::proofs::NumberFacts::sign_none, crate::proofs::NumberFacts::sign_some))]
 fn sign_end(bytes: &[u8], at: usize) -> usize
     requires { at ≤ length bytes.now }
-    ensures { LeadsTo bytes.now at result (behind_sign (drop at bytes.now)) }
+    ensures { LeadsTo bytes.now at result (after_sign (drop at bytes.now)) }
 {
     if stands_at(bytes, at, b'+') || stands_at(bytes, at, b'-') {
         return at + 1;
@@ -57,11 +57,11 @@ fn sign_end(bytes: &[u8], at: usize) -> usize
     at
 }
 
-/// The place behind an exponent, where one stands at a place: an `e` or `E` is one only where digits follow.
+/// The place after an exponent, where one stands at a place: an `e` or `E` is one only where digits follow.
 #[tactic(auto, using(crate::proofs::NumberFacts::exponent_none, crate::proofs::NumberFacts::exponent_no_digits, crate::proofs::NumberFacts::exponent_some))]
 fn exponent_end(bytes: &[u8], at: usize) -> usize
     requires { at ≤ length bytes.now }
-    ensures { LeadsTo bytes.now at result (behind_exponent (drop at bytes.now)) }
+    ensures { LeadsTo bytes.now at result (after_exponent (drop at bytes.now)) }
 {
     if !(stands_at(bytes, at, b'e') || stands_at(bytes, at, b'E')) {
         return at;
@@ -73,11 +73,11 @@ fn exponent_end(bytes: &[u8], at: usize) -> usize
     digits_end(bytes, digits)
 }
 
-/// The place behind the longest number that stands at a place.
+/// The place after the longest number that stands at a place.
 #[tactic(auto, using(crate::proofs::NumberFacts::number_leads))]
 fn number_end(bytes: &[u8], at: usize) -> usize
     requires { at ≤ length bytes.now }
-    ensures { LeadsTo bytes.now at result (behind_number (drop at bytes.now)) }
+    ensures { LeadsTo bytes.now at result (after_number (drop at bytes.now)) }
 {
     let point = digits_end(bytes, at);
     let mark = decimals_end(bytes, point);
@@ -90,7 +90,7 @@ fn number_end(bytes: &[u8], at: usize) -> usize
 pub fn number_at(text: &str, at: usize) -> Result<Lexed, TclKind>
     requires within { at < length text.now }
     requires boundary { IsCharBoundary text.now at }
-    ensures { LexedAt (IsFront (number_token (drop at text.now) (behind_number (drop at text.now)))) text.now at result }
+    ensures { LexedAt (IsFront (number_token (drop at text.now) (after_number (drop at text.now)))) text.now at result }
 {
     let end = number_end(text.as_bytes(), at);
     match Fixed::read(&text[at..end]) {

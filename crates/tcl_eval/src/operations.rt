@@ -3,13 +3,13 @@
 ghost use Rattle.std.specs.Prelude.{◌≡◌, ◌||◌, ◌&&◌, not, Ok, if◌then◌else◌};
 ghost use Rattle.sdc_base.specs.Gives.{Gives};
 ghost use Rattle.source_types.specs.declared.expressions.BinaryOperator.TheVariants as op;
-ghost use Rattle.sdc_model.specs.ExpressionValue as spec;
+ghost use Rattle.tcl_model.specs.ExpressionValue as spec;
 
 use crate::values::{
     computed, is_numeric, is_true, number_of, numbers_of, text_of, truth_of, truth_value,
 };
 use sdc_base::{Fixed, Stop};
-use sdc_model::{BinaryOperator, Scalar, TclKind, UnaryOperator};
+use source_types::{BinaryOperator, Scalar, TclKind, UnaryOperator};
 use std::alloc::Global;
 
 /// Whether a number is below another.
@@ -242,7 +242,7 @@ fn decided_where(deciding: bool, truth: Result<bool, TclKind>) -> Option<Result<
     }
 }
 
-/// What an operator makes of the value behind it (Tcl). Refused as `BadExpr` where it is a text that has not the form
+/// What an operator makes of the value after it (Tcl). Refused as `BadExpr` where it is a text that has not the form
 /// of a number, as `Number` where it is out of range.
 pub fn changed(operator: UnaryOperator, value: &Scalar) -> Result<Scalar, TclKind>
     ensures { result ≡ spec.changed operator value.now }

@@ -1,12 +1,12 @@
 //! Operators and parentheses of an expression, as they are spelled (Tcl).
 
 ghost use Rattle.std.specs.Prelude.{◌≡◌, ◌<◌, ◌≤◌, ◌+◌, length, drop, slice_index};
-ghost use Rattle.sdc_model.specs.ExpressionTokens as grammar;
+ghost use Rattle.tcl_model.specs.ExpressionTokens as grammar;
 ghost use Rattle.tcl_words.specs.Operands.{IsFront};
 ghost use Rattle.tcl_eval.specs.Lexing.{LexedAt, PairAt};
 
 use crate::lexed::Lexed;
-use sdc_model::{BinaryOperator, ExpressionToken, TclKind};
+use source_types::{BinaryOperator, ExpressionToken, TclKind};
 
 /// The operator that two bytes spell, if they spell one.
 fn pair(first: u8, second: u8) -> Option<BinaryOperator>

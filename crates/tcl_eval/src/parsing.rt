@@ -1,13 +1,13 @@
 //! Expressions, parsed.
 
 ghost use Rattle.sdc_base.specs.Gives.{Meets};
-ghost use Rattle.sdc_model.specs.ExpressionSteps.{ParsesTo};
+ghost use Rattle.tcl_model.specs.ExpressionSteps.{ParsesTo};
 
 use crate::lexed::Lexed;
 use crate::reading::Reading;
 use crate::tokens::token_at;
 use sdc_base::Stop;
-use sdc_model::{Expression, TclKind};
+use source_types::{Expression, TclKind};
 use std::alloc::Global;
 
 /// The expression that a text is (Tcl): operands, parentheses, and operators from `||`, the weakest, over `&&`,

@@ -1,13 +1,14 @@
 //! How far a run is: what it changed beside its host, and at which level it is.
 
 ghost use Rattle.std.specs.Prelude.{◌≡◌, ◌-◌, ◌<◌, [], OnOk};
-ghost use Rattle.sdc_model.specs.Variables.{with_variable};
+ghost use Rattle.tcl_model.specs.Variables.{with_variable};
 ghost use Rattle.tcl_eval.specs.Worlds.{Begins};
 
 use crate::variables::Variables;
 use sdc_base::{Duplicate, NoMemory};
-use sdc_model::{Kind, TclKind, Value};
+use source_types::{Kind, TclKind};
 use std::alloc::Global;
+use timing_types::Value;
 
 /// The most commands that a run begins. This project's own.
 const MOST_COMMANDS: u32 = 30_000_000;
@@ -17,7 +18,7 @@ const MOST_LEVELS: usize = 100;
 
 /// Where in a run a command stands: the line of the outermost command around it, and how many levels are left to be
 /// opened inside it.
-#[derive(Clone, Copy, Debug)]
+#[derive(Clone, Copy)]
 pub struct Level {
     pub line: u32,
     pub left: usize,
@@ -48,7 +49,7 @@ impl Level {
     }
 
     /// The level inside so many parentheses, at most the last one.
-    pub fn behind(self, inside: usize) -> Level
+    pub fn after(self, inside: usize) -> Level
         ensures line { result.line ≡ self.line }
         ensures left { result.left ≡ self.left - inside }
     {

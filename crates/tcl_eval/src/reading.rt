@@ -6,12 +6,12 @@ ghost use Rattle.tcl_eval.specs.Readings.{seen};
 
 use crate::waiting::{Waiting, binding, push_decision, settle, sign_of};
 use sdc_base::{List, NoMemory};
-use sdc_model::{BinaryOperator, Expression, ExpressionStep, ExpressionToken, UnaryOperator};
+use source_types::{BinaryOperator, Expression, ExpressionStep, ExpressionToken, UnaryOperator};
 use std::alloc::Global;
 
 /// What is read so far: the steps that are done, what waits, the last at the end, the parentheses that are open and
 /// the most that were, and whether an operand is due.
-#[derive(Debug, Drop)]
+#[derive(Drop)]
 pub struct Reading {
     pub steps: List<ExpressionStep>,
     pub waits: Vec<Waiting>,

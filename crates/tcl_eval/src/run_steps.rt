@@ -2,9 +2,9 @@
 
 ghost use Rattle.std.specs.Prelude.{◌≡◌, ◌<◌, ◌∷◌, Ok, map, length, reverse, IfOk, IfSome, OnOk};
 ghost use Rattle.sdc_base.specs.Gives.{Gives, Meets};
-ghost use Rattle.sdc_model.specs.ExpressionValue as scalars;
-ghost use Rattle.sdc_model.specs.HostCalls.{text_in};
-ghost use Rattle.sdc_model.specs.NamedCommands.{spaced as spaced_of};
+ghost use Rattle.tcl_model.specs.ExpressionValue as scalars;
+ghost use Rattle.tcl_model.specs.HostCalls.{text_in};
+ghost use Rattle.tcl_model.specs.NamedCommands.{spaced as spaced_of};
 ghost use Rattle.source_types.specs.declared.expressions.Scalar.TheVariants as scalar;
 ghost use Rattle.timing_types.specs.declared.objects.Value.TheVariants as value;
 ghost use Rattle.tcl_eval.specs.ScriptReads.{CommandWithin, Parts};
@@ -15,8 +15,9 @@ use crate::hosts::Commands;
 use crate::texts::{into_text, spaced, text_values};
 use crate::values::text_of;
 use sdc_base::{At, List, NoMemory, Stop, Text};
-use sdc_model::{Command, Kind, Scalar, Value};
+use source_types::{Command, Kind, Scalar};
 use std::alloc::Global;
+use timing_types::Value;
 
 /// The next command of a body or a bracket. Its fault has no line: it is told with the line of the outermost command.
 pub fn next_within(alloc: Global, reader: &mut CommandReader) -> Result<Option<Command>, Stop<Kind>>

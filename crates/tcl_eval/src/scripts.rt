@@ -1,11 +1,11 @@
 //! The run of a script: its commands one after the other, with their words, brackets, bodies and expressions. What runs
 //! a body and what runs a command lead back to each other; the levels that are left bound this.
 
-ghost use Rattle.sdc_model.specs.Branches.{branches_of};
-ghost use Rattle.sdc_model.specs.HostCalls.{text_in};
-ghost use Rattle.sdc_model.specs.NamedCommands as commands;
-ghost use Rattle.sdc_model.specs.ScriptRun.{Enters, RunsCommand};
-ghost use Rattle.sdc_model.specs.WordValues.{RunsPart, RunsWord, in_body};
+ghost use Rattle.tcl_model.specs.Branches.{branches_of};
+ghost use Rattle.tcl_model.specs.HostCalls.{text_in};
+ghost use Rattle.tcl_model.specs.NamedCommands as commands;
+ghost use Rattle.tcl_model.specs.ScriptRun.{Enters, RunsCommand};
+ghost use Rattle.tcl_model.specs.WordValues.{RunsPart, RunsWord, in_body};
 ghost use Rattle.tcl_eval.specs.StepsRun.{StepsOn};
 ghost use Rattle.tcl_eval.specs.Worlds.{Does, level_of, world};
 ghost use Rattle.std.specs.Prelude.{◌<◌, ◌≤◌, ◌+◌, map, reverse, IfOk};
@@ -26,10 +26,11 @@ use crate::steps::{last_value, passing, take_binary, take_decision, take_number,
 use crate::texts::{add_text, into_text, no_text, text_value, text_values};
 use crate::values::truth_of;
 use sdc_base::{Duplicate, List, Stop, Text};
-use sdc_model::{
-    Branch, Branches, Command, CommandName, ExpressionStep, Kind, Part, Scalar, TclKind, Value,
+use source_types::{
+    Branch, Branches, Command, CommandName, ExpressionStep, Kind, Part, Scalar, TclKind,
 };
 use std::alloc::Global;
+use timing_types::Value;
 
 /// Runs a body at the next level: the value of its last command, or the empty text. Refused as `TooDeep` where no level
 /// is left.
@@ -126,12 +127,12 @@ fn run_part<H: Commands>(
             if is_index(script.as_bytes()) {
                 return index_value(alloc, level.left, inside, script.as_str());
             }
-            run_body(alloc, level.behind(inside), host, run, script.as_str())
+            run_body(alloc, level.after(inside), host, run, script.as_str())
         }
     }
 }
 
-/// Runs a command of a name, by the values of the words behind the name.
+/// Runs a command of a name, by the values of the words after the name.
 #[cycle(run)]
 fn run_named<H: Commands>(
     alloc: Global,

@@ -8,10 +8,10 @@ ghost use Rattle.tcl_eval.specs.StepsRun.{Takes, TakesValue, ended, passing as p
 use crate::operations::{changed, decided, joined};
 use crate::values::computed;
 use sdc_base::{Fixed, NumberError, Stop};
-use sdc_model::{BinaryOperator, ExpressionStep, Scalar, TclKind, UnaryOperator};
+use source_types::{BinaryOperator, ExpressionStep, Scalar, TclKind, UnaryOperator};
 use std::alloc::Global;
 
-/// Of how many operators the steps are still passed over behind a step that is.
+/// Of how many operators the steps are still passed over after a step that is.
 pub fn passing(step: &ExpressionStep, passed: usize) -> usize
     requires { passed < 18446744073709551615 }
     ensures { result ≡ passing_of step.now passed }
@@ -19,12 +19,12 @@ pub fn passing(step: &ExpressionStep, passed: usize) -> usize
     match step {
         ExpressionStep::Number(_) | ExpressionStep::Word(..) | ExpressionStep::Unary(_) => passed,
         ExpressionStep::Decide(_) => passed + 1,
-        ExpressionStep::Binary(operator) => behind_operator(*operator, passed),
+        ExpressionStep::Binary(operator) => after_operator(*operator, passed),
     }
 }
 
-/// The same behind an operator between two operands.
-fn behind_operator(operator: BinaryOperator, passed: usize) -> usize
+/// The same after an operator between two operands.
+fn after_operator(operator: BinaryOperator, passed: usize) -> usize
     ensures { result ≡ passing_of (step.Binary operator) passed }
 {
     match operator {
@@ -83,7 +83,7 @@ pub fn take_unary(values: &mut Vec<Scalar>, operator: UnaryOperator) -> Result<u
     take_value(values, changed(operator, &value), 0)
 }
 
-/// What stands behind the left side of `&&` or `||`: where it decides, the right side's steps are passed over.
+/// What stands after the left side of `&&` or `||`: where it decides, the right side's steps are passed over.
 pub fn take_decision(
     values: &mut Vec<Scalar>,
     operator: BinaryOperator,

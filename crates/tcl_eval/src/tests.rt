@@ -5,7 +5,7 @@ mod values;
 
 use crate::parsing::parse_expression;
 use sdc_base::{Fixed, NoMemory, NumberError, Stop};
-use sdc_model::{Expression, ExpressionStep, Part, Word};
+use source_types::{Expression, ExpressionStep, Part, Word};
 use std::alloc::Global;
 
 /// A number, or `out` where it is out of range.
@@ -24,17 +24,17 @@ fn show_number(
     Ok(())
 }
 
-/// A word by its parts: a text in `'`, a variable behind `$`, a script in brackets.
+/// A word by its parts: a text in `'`, a variable after `$`, a script in brackets.
 fn show_word(shown: &mut String, word: &Word) -> Result<(), NoMemory> {
     for part in word.parts.iter() {
-        let (before, text, behind) = match part {
+        let (before, text, after) = match part {
             Part::Text(text) => ("'", text, "'"),
             Part::Variable(name) => ("$", name, ""),
             Part::Script(script) => ("[", script, "]"),
         };
         shown.push_str(before)?;
         shown.push_str(text.as_str())?;
-        shown.push_str(behind)?;
+        shown.push_str(after)?;
     }
     Ok(())
 }

@@ -1,14 +1,14 @@
 //! Values as texts.
 
 ghost use Rattle.std.specs.Prelude.{◌≡◌, ◌++◌, map, IfOk, OnOk};
-ghost use Rattle.sdc_model.specs.BuiltIns as spec;
-ghost use Rattle.sdc_model.specs.HostCalls.{text_in};
-ghost use Rattle.sdc_model.specs.NamedCommands as commands;
+ghost use Rattle.tcl_model.specs.BuiltIns as spec;
+ghost use Rattle.tcl_model.specs.HostCalls.{text_in};
+ghost use Rattle.tcl_model.specs.NamedCommands as commands;
 
 use crate::hosts::Commands;
 use sdc_base::{Duplicate, List, NoMemory, Text};
-use sdc_model::Value;
 use std::alloc::Global;
+use timing_types::Value;
 
 /// The empty text.
 pub fn no_text(alloc: Global) -> Value

@@ -3,7 +3,7 @@
 ghost use Rattle.std.specs.Prelude.{◌≡◌, ◌<◌, ◌≤◌, ◌+◌, length, drop, slice_index};
 ghost use Rattle.std.specs.Str.{IsCharBoundary};
 ghost use Rattle.sdc_base.specs.Gives.{Meets};
-ghost use Rattle.sdc_model.specs.ExpressionTokens as grammar;
+ghost use Rattle.tcl_model.specs.ExpressionTokens as grammar;
 ghost use Rattle.tcl_words.specs.Spans.{LeadsTo};
 ghost use Rattle.tcl_eval.specs.Lexing.{word_token, LexedAt, TokenFrom};
 
@@ -11,7 +11,7 @@ use crate::lexed::Lexed;
 use crate::numbers::number_at;
 use crate::operators::operator_at;
 use sdc_base::Stop;
-use sdc_model::{ExpressionToken, TclKind};
+use source_types::{ExpressionToken, TclKind};
 use std::alloc::Global;
 use tcl_words::{
     Spelled, braced_operand, continues, is_space, quoted_operand, script_operand, variable_operand,
@@ -27,7 +27,7 @@ fn is_passed(bytes: &[u8], at: usize) -> bool
     is_space(byte) || byte == b'\n' || (byte == b'\\' && continues(bytes, at + 1))
 }
 
-/// The place where the first token at or behind a place begins, or the end of the text.
+/// The place where the first token at or after a place begins, or the end of the text.
 #[tactic(auto, using(crate::proofs::TokenFacts::passed_none, crate::proofs::TokenFacts::passed_more, crate::proofs::TokenFacts::passed_token, crate::proofs::TokenFacts::passed_all))]
 fn token_start(bytes: &[u8], from: usize) -> usize
     requires { from ≤ length bytes.now }
@@ -40,7 +40,7 @@ fn token_start(bytes: &[u8], from: usize) -> usize
     at
 }
 
-/// The first token at or behind a place of an expression, and where it ends; `None` at the end of the text. Refused as
+/// The first token at or after a place of an expression, and where it ends; `None` at the end of the text. Refused as
 /// `BadExpr` where no token stands.
 #[tactic(auto, using(crate::proofs::TokenFacts::token_end, crate::proofs::TokenFacts::token_found))]
 pub fn token_at(alloc: Global, text: &str, from: usize) -> Result<Option<Lexed>, Stop<TclKind>>

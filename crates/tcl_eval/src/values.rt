@@ -2,11 +2,11 @@
 
 ghost use Rattle.std.specs.Prelude.{◌≡◌, IfOk};
 ghost use Rattle.sdc_base.specs.Number.{read_number};
-ghost use Rattle.sdc_model.specs.ExpressionValue as spec;
+ghost use Rattle.tcl_model.specs.ExpressionValue as spec;
 ghost use Rattle.tcl_eval.specs.Values.{both_numbers};
 
 use sdc_base::{Duplicate, Fixed, NoMemory, NumberError, Text};
-use sdc_model::{Scalar, TclKind};
+use source_types::{Scalar, TclKind};
 use std::alloc::Global;
 
 /// The number 1 in units of 10^-9.

@@ -2,13 +2,13 @@
 
 ghost use Rattle.std.specs.Prelude.{◌≡◌, [], OnOk};
 ghost use Rattle.std.specs.Option.{option_copied};
-ghost use Rattle.sdc_model.specs.Variables.{variable_in, with_variable};
+ghost use Rattle.tcl_model.specs.Variables.{variable_in, with_variable};
 
 use indexmap::IndexMap;
 use sdc_base::NoMemory;
-use sdc_model::Value;
 use std::alloc::Global;
 use std::marker::Model;
+use timing_types::Value;
 
 /// The variables of a script. Contracts see the list of them, in the order in which they were first set.
 #[derive(Drop)]
@@ -18,7 +18,7 @@ pub struct Variables {
 
 impl Model for Variables {
     ghost use Rattle.std.specs.Prelude.{List};
-    ghost use Rattle.sdc_model.specs.Variables.{Variable};
+    ghost use Rattle.tcl_model.specs.Variables.{Variable};
     ghost use Rattle.tcl_eval.specs.VariableMaps.{variables_of};
 
     ghost Value = { List Variable };

@@ -1,16 +1,16 @@
 //! What waits for an operand of an expression that is read later.
 
 ghost use Rattle.std.specs.Prelude.{◌≡◌, ◌++◌, reverse, OnOk};
-ghost use Rattle.sdc_model.specs.ExpressionForm as form;
+ghost use Rattle.tcl_model.specs.ExpressionForm as form;
 ghost use Rattle.tcl_eval.specs.ExpressionReading as reading;
-ghost use Rattle.sdc_model.specs.ExpressionSteps as steps_of;
+ghost use Rattle.tcl_model.specs.ExpressionSteps as steps_of;
 ghost use Rattle.tcl_eval.specs.Readings.{DoneAs, TakesDone};
 
 use sdc_base::{List, NoMemory};
-use sdc_model::{BinaryOperator, ExpressionStep, UnaryOperator};
+use source_types::{BinaryOperator, ExpressionStep, UnaryOperator};
 
 /// What waits for the operand that is read.
-#[derive(Clone, Copy, Debug)]
+#[derive(Clone, Copy)]
 pub enum Waiting {
     /// An operator before it.
     Unary(UnaryOperator),

@@ -5,8 +5,8 @@ use Rattle.std.proofs.lemmas.Bool.Decides.{nat_tests}
 use Rattle.std.proofs.lemmas.List.{drop_more}
 use Rattle.std.proofs.lemmas.Str.{IsCharBoundary-before_ascii, IsCharBoundary-end}
 use Rattle.std.specs.Str.{IsCharBoundary}
-use Rattle.sdc_model.specs.Bytes.{begins_with, is_end, is_space}
-use Rattle.sdc_model.specs.Continued.{Between, comment, continues, from_command, parting, taken}
+use Rattle.text_model.specs.Bytes.{begins_with, is_end, is_space}
+use Rattle.text_model.specs.Continued.{Between, comment, continues, from_command, parting, taken}
 use Rattle.tcl_words.specs.Spans.{Keeps, Moves, StepsTo}
 use Rattle.tcl_words.proofs.RunFacts.{drop_all, keeps_one}
 use Rattle.tcl_words.proofs.GapFacts.{Second, two_places}

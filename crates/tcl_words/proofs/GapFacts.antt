@@ -6,8 +6,8 @@ use Rattle.std.proofs.lemmas.Bool.Decides.{nat_tests}
 use Rattle.std.proofs.lemmas.List.{drop_more, length-drop}
 use Rattle.std.proofs.lemmas.Str.{IsCharBoundary-after_ascii}
 use Rattle.std.specs.Str.{IsCharBoundary}
-use Rattle.sdc_model.specs.Bytes.{begins_with, behind, is_end, is_space}
-use Rattle.sdc_model.specs.Continued.{behind_continued, behind_gap, behind_newline, continues}
+use Rattle.text_model.specs.Bytes.{begins_with, after, is_end, is_space}
+use Rattle.text_model.specs.Continued.{after_continued, after_gap, after_newline, continues}
 use Rattle.tcl_words.specs.Spans.{Keeps, LeadsTo, Moves, StepsTo}
 use Rattle.tcl_words.proofs.RunFacts.{drop_all, keeps_one, space_ascii}
 
@@ -28,16 +28,16 @@ continues_as P newline two (b ∷ bs) h =
       second [] h = absurd (both_ways false refl h)
       second (c ∷ cs) h = subst (λ (d : ℕ). P (13 ∷ (d ∷ cs))) (sym (eqb-true c 10 h)) (two cs)
 
-gap_newline : (text : List ℕ) → continues text ≡ true → behind_gap true text ≡ behind_gap false (behind_newline text)
-unfolding behind_gap behind_newline
-gap_newline text h = continues_as (λ (t : List ℕ). behind_gap true t ≡ behind_gap false (behind_newline t)) (λ bs. refl) (λ bs. refl) text h
+gap_newline : (text : List ℕ) → continues text ≡ true → after_gap true text ≡ after_gap false (after_newline text)
+unfolding after_gap after_newline
+gap_newline text h = continues_as (λ (t : List ℕ). after_gap true t ≡ after_gap false (after_newline t)) (λ bs. refl) (λ bs. refl) text h
 
-newline_one : (bs : List ℕ) → behind_newline (10 ∷ bs) ≡ bs
-unfolding behind_newline
+newline_one : (bs : List ℕ) → after_newline (10 ∷ bs) ≡ bs
+unfolding after_newline
 newline_one bs = refl
 
-newline_two : (bs : List ℕ) → behind_newline (13 ∷ (10 ∷ bs)) ≡ bs
-unfolding behind_newline
+newline_two : (bs : List ℕ) → after_newline (13 ∷ (10 ∷ bs)) ≡ bs
+unfolding after_newline
 newline_two bs = refl
 
 -- what stands at two places where no newline stands at the first
@@ -74,28 +74,28 @@ two_places text at s =
     ∙ (ap (λ (b : ℕ). b ∷ drop (at + 1) text) s.first
     ∙ ap (λ (t : List ℕ). 13 ∷ t) (drop_more text (at + 1) 0 s.within ∙ (ap (λ (b : ℕ). b ∷ drop (at + 1 + 1) text) s.newline ∙ ap (λ (i : ℕ). 10 ∷ drop i text) place)))
 
-pub newline_leads : (text : List ℕ) (at : ℕ) → at < length text → get_or text at 0 ≡ 10 → LeadsTo text at (at + 1) (behind_newline (drop at text))
+pub newline_leads : (text : List ℕ) (at : ℕ) → at < length text → get_or text at 0 ≡ 10 → LeadsTo text at (at + 1) (after_newline (drop at text))
 newline_leads text at within e = record {
-  is = ap behind_newline (drop_more text at 0 within ∙ ap (λ (b : ℕ). b ∷ drop (at + 1) text) e) ∙ newline_one (drop (at + 1) text);
+  is = ap after_newline (drop_more text at 0 within ∙ ap (λ (b : ℕ). b ∷ drop (at + 1) text) e) ∙ newline_one (drop (at + 1) text);
   forward = omega arith;
   within = omega (arith, within);
   keeps = keeps_one text at within (omega (arith, e));
 }
 
-pub second_leads : (text : List ℕ) (at : ℕ) → Second text at → LeadsTo text at (at + 2) (behind_newline (drop at text))
+pub second_leads : (text : List ℕ) (at : ℕ) → Second text at → LeadsTo text at (at + 2) (after_newline (drop at text))
 second_leads text at s =
     let place : at + 1 + 1 ≡ at + 2 = omega arith in
     record {
-      is = ap behind_newline (two_places text at s) ∙ newline_two (drop (at + 2) text);
+      is = ap after_newline (two_places text at s) ∙ newline_two (drop (at + 2) text);
       forward = omega arith;
       within = omega (arith, s.within);
       keeps = λ utf8 cuts. subst (λ (i : ℕ). IsCharBoundary text i) place (IsCharBoundary-after_ascii text (at + 1) utf8 s.within (omega (arith, s.newline)));
     }
 
--- and the spaces behind it
-pub continued_leads : (text : List ℕ) (at newline to : ℕ) → LeadsTo text at newline (behind_newline (drop at text)) → LeadsTo text newline to (behind is_space (drop newline text)) → LeadsTo text at to (behind_continued (drop at text))
+-- and the spaces after it
+pub continued_leads : (text : List ℕ) (at newline to : ℕ) → LeadsTo text at newline (after_newline (drop at text)) → LeadsTo text newline to (after is_space (drop newline text)) → LeadsTo text at to (after_continued (drop at text))
 continued_leads text at newline to first second = record {
-  is = ap (behind is_space) first.is ∙ second.is;
+  is = ap (after is_space) first.is ∙ second.is;
   forward = omega (arith, first.forward, second.forward);
   within = second.within;
   keeps = λ utf8 cuts. second.keeps utf8 (first.keeps utf8 cuts);
@@ -103,35 +103,35 @@ continued_leads text at newline to first second = record {
 
 -- ---- gaps
 
-gap_space : (b : ℕ) (bs : List ℕ) → is_space b ≡ true → behind_gap false (b ∷ bs) ≡ behind_gap false bs
-unfolding behind_gap
+gap_space : (b : ℕ) (bs : List ℕ) → is_space b ≡ true → after_gap false (b ∷ bs) ≡ after_gap false bs
+unfolding after_gap
 gap_space b bs p = rw p refl
 
-gap_backslash : (bs : List ℕ) → continues bs ≡ true → behind_gap false (92 ∷ bs) ≡ behind_gap true bs
-unfolding behind_gap
+gap_backslash : (bs : List ℕ) → continues bs ≡ true → after_gap false (92 ∷ bs) ≡ after_gap true bs
+unfolding after_gap
 gap_backslash bs h = rw h refl
 
-gap_continued : (b : ℕ) (bs : List ℕ) → b ≡ 92 → continues bs ≡ true → behind_gap false (b ∷ bs) ≡ behind_gap false (behind_newline bs)
-gap_continued b bs e h = subst (λ (c : ℕ). behind_gap false (c ∷ bs) ≡ behind_gap false (behind_newline bs)) (sym e) (gap_backslash bs h ∙ gap_newline bs h)
+gap_continued : (b : ℕ) (bs : List ℕ) → b ≡ 92 → continues bs ≡ true → after_gap false (b ∷ bs) ≡ after_gap false (after_newline bs)
+gap_continued b bs e h = subst (λ (c : ℕ). after_gap false (c ∷ bs) ≡ after_gap false (after_newline bs)) (sym e) (gap_backslash bs h ∙ gap_newline bs h)
 
-gap_other : (b : ℕ) (bs : List ℕ) → is_space b ≡ false → (b == 92 && continues bs) ≡ false → behind_gap false (b ∷ bs) ≡ b ∷ bs
-unfolding behind_gap
+gap_other : (b : ℕ) (bs : List ℕ) → is_space b ≡ false → (b == 92 && continues bs) ≡ false → after_gap false (b ∷ bs) ≡ b ∷ bs
+unfolding after_gap
 gap_other b bs p q = rw (p, q, and-false (b == 10)) refl
 
 end_small : (b : ℕ) → is_end b ≡ true → b < 128
 end_small b p = grind (arith, nat_tests)
 
-pub gap_steps_space : (text : List ℕ) (at : ℕ) → at < length text → is_space (get_or text at 0) ≡ true → StepsTo (behind_gap false) text at (at + 1)
+pub gap_steps_space : (text : List ℕ) (at : ℕ) → at < length text → is_space (get_or text at 0) ≡ true → StepsTo (after_gap false) text at (at + 1)
 gap_steps_space text at within p = record {
-  moves = record { same = ap (behind_gap false) (drop_more text at 0 within) ∙ gap_space (get_or text at 0) (drop (at + 1) text) p; forward = omega arith; within = omega (arith, within) };
+  moves = record { same = ap (after_gap false) (drop_more text at 0 within) ∙ gap_space (get_or text at 0) (drop (at + 1) text) p; forward = omega arith; within = omega (arith, within) };
   stays = λ e. absurd (omega (arith, e));
   keeps = keeps_one text at within (space_ascii (get_or text at 0) p);
 }
 
-pub gap_steps_continued : (text : List ℕ) (at next : ℕ) → at < length text → get_or text at 0 ≡ 92 → continues (drop (at + 1) text) ≡ true → LeadsTo text (at + 1) next (behind_newline (drop (at + 1) text)) → StepsTo (behind_gap false) text at next
+pub gap_steps_continued : (text : List ℕ) (at next : ℕ) → at < length text → get_or text at 0 ≡ 92 → continues (drop (at + 1) text) ≡ true → LeadsTo text (at + 1) next (after_newline (drop (at + 1) text)) → StepsTo (after_gap false) text at next
 gap_steps_continued text at next within e h leads = record {
   moves = record {
-    same = ap (behind_gap false) (drop_more text at 0 within) ∙ (gap_continued (get_or text at 0) (drop (at + 1) text) e h ∙ ap (behind_gap false) leads.is);
+    same = ap (after_gap false) (drop_more text at 0 within) ∙ (gap_continued (get_or text at 0) (drop (at + 1) text) e h ∙ ap (after_gap false) leads.is);
     forward = omega (arith, leads.forward);
     within = leads.within;
   };
@@ -139,14 +139,14 @@ gap_steps_continued text at next within e h leads = record {
   keeps = λ utf8 cuts. leads.keeps utf8 (keeps_one text at within (omega (arith, e)) utf8 cuts);
 }
 
-pub gap_steps_none : (text : List ℕ) (at : ℕ) → at < length text → is_space (get_or text at 0) ≡ false → (get_or text at 0 == 92 && continues (drop (at + 1) text)) ≡ false → StepsTo (behind_gap false) text at at
+pub gap_steps_none : (text : List ℕ) (at : ℕ) → at < length text → is_space (get_or text at 0) ≡ false → (get_or text at 0 == 92 && continues (drop (at + 1) text)) ≡ false → StepsTo (after_gap false) text at at
 gap_steps_none text at within p q = record {
   moves = record { same = refl; forward = omega arith; within = omega (arith, within) };
-  stays = λ e. ap (behind_gap false) (drop_more text at 0 within) ∙ (gap_other (get_or text at 0) (drop (at + 1) text) p q ∙ sym (drop_more text at 0 within));
+  stays = λ e. ap (after_gap false) (drop_more text at 0 within) ∙ (gap_other (get_or text at 0) (drop (at + 1) text) p q ∙ sym (drop_more text at 0 within));
   keeps = λ utf8 cuts. cuts;
 }
 
--- ---- steps one behind the other
+-- ---- steps one after the other
 
 -- a place that steps have come to
 pub record Reached (rest_of : List ℕ → List ℕ) (text : List ℕ) (from at : ℕ) : Type 0 where

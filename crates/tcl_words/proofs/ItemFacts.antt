@@ -8,12 +8,12 @@ use Rattle.sdc_base.specs.declared.memory.Stop.{Stop}
 use Rattle.sdc_base.specs.declared.memory.Stop.TheVariants.{NoMemory, Refused}
 use Rattle.source_types.specs.declared.kinds.TclKind.{TclKind}
 use Rattle.source_types.specs.declared.kinds.TclKind.TheVariants.{ExtraAfterBrace, Unclosed}
-use Rattle.sdc_model.specs.Bytes.{before}
-use Rattle.sdc_model.specs.Continued.{continues}
-use Rattle.sdc_model.specs.Enclosed.{behind_brace}
-use Rattle.sdc_model.specs.ListItems.{AreItemPieces, IsBracedItem, IsItem, IsItemOf, ItemFront, ended_closed_item, form_by, item_piece_at, may_end_item, parts_items, text_of}
-use Rattle.sdc_model.specs.Pieces as grammar
-use Rattle.sdc_model.specs.Row.{found, stops}
+use Rattle.text_model.specs.Bytes.{before}
+use Rattle.text_model.specs.Continued.{continues}
+use Rattle.text_model.specs.Enclosed.{after_brace}
+use Rattle.tcl_model.specs.ListItems.{AreItemPieces, IsBracedItem, IsItem, IsItemOf, ItemFront, ended_closed_item, form_by, item_piece_at, may_end_item, parts_items, text_of}
+use Rattle.tcl_model.specs.Pieces as grammar
+use Rattle.text_model.specs.Row.{found, stops}
 use Rattle.tcl_words.specs.declared.lists.Item.{Item}
 use Rattle.tcl_words.specs.declared.runs.Form.TheVariants.{Bare, Braced, Quoted}
 use Rattle.tcl_words.specs.ItemReads.{ItemAt, ItemFrom, ItemPiecesFrom, ItemPiecesTo, starts_item}
@@ -35,7 +35,7 @@ bare_form b bs front_ p q i = subst (λ (f : grammar.Form). IsItemOf f b bs fron
   is_bare : (b == 123) ≡ false → (b == 34) ≡ false → form_by b ≡ grammar.bare
   is_bare p q = rw (p, q) refl
 
-brace_here : (text : List ℕ) (from : ℕ) (front_ : ItemFront) → from < length text → get_or text from 0 ≡ 123 → IsBracedItem (drop (from + 1) text) (behind_brace (drop (from + 1) text)) front_ → IsItem (drop from text) front_
+brace_here : (text : List ℕ) (from : ℕ) (front_ : ItemFront) → from < length text → get_or text from 0 ≡ 123 → IsBracedItem (drop (from + 1) text) (after_brace (drop (from + 1) text)) front_ → IsItem (drop from text) front_
 brace_here text from front_ within e i =
     subst (λ (t : List ℕ). IsItem t front_) (sym (drop_more text from 0 within)) (brace_form (get_or text from 0) (drop (from + 1) text) front_ e i)
 
@@ -68,17 +68,17 @@ pub quoted_extra : (text : List ℕ) (from : ℕ) (item : Item) → from < lengt
 quoted_extra text from item within e p follows =
     quote_here text from (stops (Some ExtraAfterBrace)) within e (p.pieces, Ok (drop item.end text), p.row, extra p.pieces (drop item.end text) follows)
 
-pub quoted_break : (text : List ℕ) (from : ℕ) (kind : TclKind) → from < length text → get_or text from 0 ≡ 34 → ItemPiecesFrom Quoted text (from + 1) (Err kind) → ItemFrom text from (Err kind)
-quoted_break text from kind within e p = quote_here text from (stops (Some kind)) within e (p.0, Err kind, p.1, refl)
+pub quoted_error : (text : List ℕ) (from : ℕ) (kind : TclKind) → from < length text → get_or text from 0 ≡ 34 → ItemPiecesFrom Quoted text (from + 1) (Err kind) → ItemFrom text from (Err kind)
+quoted_error text from kind within e p = quote_here text from (stops (Some kind)) within e (p.0, Err kind, p.1, refl)
 
 -- ---- a braced item
 
-pub braced_unclosed : (text : List ℕ) (from : ℕ) → from < length text → get_or text from 0 ≡ 123 → behind_brace (drop (from + 1) text) ≡ None → ItemFrom text from (Err Unclosed)
+pub braced_unclosed : (text : List ℕ) (from : ℕ) → from < length text → get_or text from 0 ≡ 123 → after_brace (drop (from + 1) text) ≡ None → ItemFrom text from (Err Unclosed)
 braced_unclosed text from within e none =
     brace_here text from (stops (Some Unclosed)) within e
     (subst (λ (o : Option (List ℕ)). IsBracedItem (drop (from + 1) text) o (stops (Some Unclosed))) (sym none) refl)
 
-braced_backslash : (rest : List ℕ) (end : Result (List ℕ) TclKind) → grammar.behind_backslash grammar.braced rest ≡ stops end → ⊥
+braced_backslash : (rest : List ℕ) (end : Result (List ℕ) TclKind) → grammar.after_backslash grammar.braced rest ≡ stops end → ⊥
 braced_backslash [] end e = cc
 braced_backslash (b ∷ bs) end e = elim (cases_Bool (continues (b ∷ bs))) [
   | inl p ↦ let f : grammar.continued grammar.braced (b ∷ bs) ≡ stops end = rw p at e in cc
@@ -90,7 +90,7 @@ inner_stop : (inner : List ℕ) (end : Result (List ℕ) TclKind) → item_piece
 unfolding item_piece_at
 inner_stop [] end e = let f : ◌≡◌ {A = Result (List ℕ) TclKind} (Ok []) end = cc in sym f
 inner_stop (b ∷ bs) end e = elim (cases_Bool (b == 92)) [
-  | inl p ↦ let f : grammar.behind_backslash grammar.braced bs ≡ stops end = rw p at e in absurd (braced_backslash bs end f)
+  | inl p ↦ let f : grammar.after_backslash grammar.braced bs ≡ stops end = rw p at e in absurd (braced_backslash bs end f)
   | inr p ↦ let f : grammar.with_run grammar.braced (b ∷ []) bs ≡ stops end = rw p at e in absurd (no_stop f)
 ] where
   no_stop : grammar.with_run grammar.braced (b ∷ []) bs ≡ stops end → ⊥
@@ -110,40 +110,40 @@ pub braced_stop : (text inner : List ℕ) (from : ℕ) (stop : Stop TclKind) →
 braced_stop text inner from (Refused kind) m = braced_whole text inner from kind m
 braced_stop text inner from NoMemory m = tt
 
-inner_row : (text inner : List ℕ) (from to : ℕ) (item : Item) → ClosesAt text (from + 1) to (behind_brace (drop (from + 1) text)) → inner ≡ between text (from + 1) (to - 1) → (p : ItemPiecesTo Braced inner 0 item) → AreItemPieces grammar.braced p.pieces (before (drop (from + 1) text) (125 ∷ drop to text)) (Ok [])
+inner_row : (text inner : List ℕ) (from to : ℕ) (item : Item) → ClosesAt text (from + 1) to (after_brace (drop (from + 1) text)) → inner ≡ between text (from + 1) (to - 1) → (p : ItemPiecesTo Braced inner 0 item) → AreItemPieces grammar.braced p.pieces (before (drop (from + 1) text) (125 ∷ drop to text)) (Ok [])
 inner_row text inner from to item c e p =
     let whole : AreItemPieces grammar.braced p.pieces inner (Ok []) = subst (λ (t : Result (List ℕ) TclKind). AreItemPieces grammar.braced p.pieces inner t) (inner_end p.pieces inner (Ok (drop item.end inner)) p.row) p.row in
     subst (λ (t : List ℕ). AreItemPieces grammar.braced p.pieces t (Ok [])) (e ∙ sym (inner_is text from to c.forward c.within)) whole
 
-braced_front : (text : List ℕ) (from to : ℕ) (front_ : ItemFront) → ClosesAt text (from + 1) to (behind_brace (drop (from + 1) text)) → from < length text → get_or text from 0 ≡ 123 → IsBracedItem (drop (from + 1) text) (Some (drop to text)) front_ → IsItem (drop from text) front_
+braced_front : (text : List ℕ) (from to : ℕ) (front_ : ItemFront) → ClosesAt text (from + 1) to (after_brace (drop (from + 1) text)) → from < length text → get_or text from 0 ≡ 123 → IsBracedItem (drop (from + 1) text) (Some (drop to text)) front_ → IsItem (drop from text) front_
 braced_front text from to front_ c within e b =
     brace_here text from front_ within e (subst (λ (o : Option (List ℕ)). IsBracedItem (drop (from + 1) text) o front_) (sym c.is) b)
 
-pub braced_item : (text inner : List ℕ) (from to : ℕ) (item : Item) → IsUtf8 text → from < length text → get_or text from 0 ≡ 123 → ClosesAt text (from + 1) to (behind_brace (drop (from + 1) text)) → inner ≡ between text (from + 1) (to - 1) → ItemPiecesTo Braced inner 0 item → may_end_item (drop to text) ≡ true → ItemAt text from (record { text = item.text; end = to })
+pub braced_item : (text inner : List ℕ) (from to : ℕ) (item : Item) → IsUtf8 text → from < length text → get_or text from 0 ≡ 123 → ClosesAt text (from + 1) to (after_brace (drop (from + 1) text)) → inner ≡ between text (from + 1) (to - 1) → ItemPiecesTo Braced inner 0 item → may_end_item (drop to text) ≡ true → ItemAt text from (record { text = item.text; end = to })
 braced_item text inner from to item utf8 within e c i p follows = record {
   stands = braced_front text from to (found item.text (drop to text)) c within e (p.pieces, inner_row text inner from to item c i p, closed item.text p.pieces (drop to text) p.is follows);
   forward = omega (arith, c.forward);
   within = c.within;
-  boundary = c.behind utf8;
+  boundary = c.after utf8;
 }
 
-pub braced_extra : (text inner : List ℕ) (from to : ℕ) (item : Item) → from < length text → get_or text from 0 ≡ 123 → ClosesAt text (from + 1) to (behind_brace (drop (from + 1) text)) → inner ≡ between text (from + 1) (to - 1) → ItemPiecesTo Braced inner 0 item → may_end_item (drop to text) ≡ false → ItemFrom text from (Err ExtraAfterBrace)
+pub braced_extra : (text inner : List ℕ) (from to : ℕ) (item : Item) → from < length text → get_or text from 0 ≡ 123 → ClosesAt text (from + 1) to (after_brace (drop (from + 1) text)) → inner ≡ between text (from + 1) (to - 1) → ItemPiecesTo Braced inner 0 item → may_end_item (drop to text) ≡ false → ItemFrom text from (Err ExtraAfterBrace)
 braced_extra text inner from to item within e c i p follows =
     braced_front text from to (stops (Some ExtraAfterBrace)) c within e (p.pieces, inner_row text inner from to item c i p, extra p.pieces (drop to text) follows)
 
 -- ---- a bare item
 
 -- a byte of an item begins a piece
-pub bare_goes : (b : ℕ) (bs after : List ℕ) → starts_item (b ∷ bs) ≡ true → item_piece_at grammar.bare (b ∷ bs) ≡ stops (Ok after) → ⊥
+pub bare_goes : (b : ℕ) (bs later : List ℕ) → starts_item (b ∷ bs) ≡ true → item_piece_at grammar.bare (b ∷ bs) ≡ stops (Ok later) → ⊥
 unfolding item_piece_at
-bare_goes b bs after s e =
+bare_goes b bs later s e =
     let none = or_parts (parts_items b) (b == 92 && continues bs) (not-true (parts_items b || (b == 92 && continues bs)) s) in
     elim (cases_Bool (b == 92)) [
       | inl p ↦
           let h : continues bs ≡ false = rw p at none.1 in
-          let f : grammar.behind_backslash grammar.bare bs ≡ stops (Ok after) = rw (none.0, p) at e in
-          backslash_goes bs after h f
-      | inr p ↦ let f : grammar.with_run grammar.bare (b ∷ []) bs ≡ stops (Ok after) = rw (none.0, p) at e in cc
+          let f : grammar.after_backslash grammar.bare bs ≡ stops (Ok later) = rw (none.0, p) at e in
+          backslash_goes bs later h f
+      | inr p ↦ let f : grammar.with_run grammar.bare (b ∷ []) bs ≡ stops (Ok later) = rw (none.0, p) at e in cc
     ]
 
 pub bare_item : (text : List ℕ) (from : ℕ) (item : Item) → from < length text → starts_item (drop from text) ≡ true → (get_or text from 0 ≡ 123 → ⊥) → (get_or text from 0 ≡ 34 → ⊥) → ItemPiecesTo Bare text from item → ItemAt text from item
@@ -162,7 +162,7 @@ bare_item text from item within s no_brace no_quote p = record {
       let row : AreItemPieces grammar.bare [] (get_or text from 0 ∷ drop (from + 1) text) (Ok (drop item.end text)) = subst (λ (ps : List grammar.Piece). AreItemPieces grammar.bare ps (get_or text from 0 ∷ drop (from + 1) text) (Ok (drop item.end text))) none row_here in
       absurd (bare_goes (get_or text from 0) (drop (from + 1) text) (drop item.end text) (subst (λ (t : List ℕ). starts_item t ≡ true) (drop_more text from 0 within) s) row)
 
-pub bare_break : (text : List ℕ) (from : ℕ) (kind : TclKind) → from < length text → (get_or text from 0 ≡ 123 → ⊥) → (get_or text from 0 ≡ 34 → ⊥) → ItemPiecesFrom Bare text from (Err kind) → ItemFrom text from (Err kind)
-bare_break text from kind within no_brace no_quote p =
+pub bare_error : (text : List ℕ) (from : ℕ) (kind : TclKind) → from < length text → (get_or text from 0 ≡ 123 → ⊥) → (get_or text from 0 ≡ 34 → ⊥) → ItemPiecesFrom Bare text from (Err kind) → ItemFrom text from (Err kind)
+bare_error text from kind within no_brace no_quote p =
     bare_here text from (stops (Some kind)) within no_brace no_quote
     (p.0, Err kind, subst (λ (t : List ℕ). AreItemPieces grammar.bare p.0 t (Err kind)) (drop_more text from 0 within) p.1, refl)

@@ -5,9 +5,9 @@ use Rattle.std.proofs.lemmas.Bool.Decides.{nat_tests}
 use Rattle.std.proofs.lemmas.List.{drop_more}
 use Rattle.std.specs.Str.{IsCharBoundary}
 use Rattle.source_types.specs.declared.kinds.TclKind.{TclKind}
-use Rattle.sdc_model.specs.Bytes.{behind}
-use Rattle.sdc_model.specs.ListItems.{ends_item, item_piece_at}
-use Rattle.sdc_model.specs.Pieces as grammar
+use Rattle.text_model.specs.Bytes.{after}
+use Rattle.tcl_model.specs.ListItems.{ends_item, item_piece_at}
+use Rattle.tcl_model.specs.Pieces as grammar
 use Rattle.tcl_words.specs.declared.pieces.Step.{Step}
 use Rattle.tcl_words.specs.declared.pieces.Step.TheVariants.{Ends}
 use Rattle.tcl_words.specs.declared.runs.Form.{Form}
@@ -28,7 +28,7 @@ item_first : (form : grammar.Form) (b : ℕ) (bs : List ℕ) → ends_item form 
 unfolding item_piece_at
 item_first form b bs p = rw p refl
 
-item_second : (form : grammar.Form) (bs : List ℕ) → ends_item form 92 ≡ false → item_piece_at form (92 ∷ bs) ≡ grammar.behind_backslash form bs
+item_second : (form : grammar.Form) (bs : List ℕ) → ends_item form 92 ≡ false → item_piece_at form (92 ∷ bs) ≡ grammar.after_backslash form bs
 unfolding item_piece_at
 item_second form bs p = rw p refl
 
@@ -60,12 +60,12 @@ at_end form text at to within p e =
     (subst (λ (f : grammar.PieceFront). StepAt f text at (Ok (Ends (end_of form at)))) (sym front)
     (word_ends form text at within (ends_both form (get_or text at 0) p)))
 
-pub at_backslash : (form : Form) (text : List ℕ) (at : ℕ) (s : Step) → at < length text → get_or text at 0 ≡ 92 → StepAt (grammar.behind_backslash (form_of form) (drop (at + 1) text)) text at (Ok s) → StepAt (item_piece_at (form_of form) (drop at text)) text at (Ok s)
+pub at_backslash : (form : Form) (text : List ℕ) (at : ℕ) (s : Step) → at < length text → get_or text at 0 ≡ 92 → StepAt (grammar.after_backslash (form_of form) (drop (at + 1) text)) text at (Ok s) → StepAt (item_piece_at (form_of form) (drop at text)) text at (Ok s)
 at_backslash form text at s within e m =
     subst (λ (f : grammar.PieceFront). StepAt f text at (Ok s))
     (sym (ap (item_piece_at (form_of form)) (here text at 92 within e) ∙ item_second (form_of form) (drop (at + 1) text) (no_backslash form))) m
 
-pub at_run : (form : Form) (text : List ℕ) (at to : ℕ) → at < length text → ends_item (form_of form) (get_or text at 0) ≡ false → (get_or text at 0 == 92) ≡ false → LeadsTo text (at + 1) to (behind (grammar.is_itself (form_of form)) (drop (at + 1) text)) → IsCharBoundary text to → StepAt (item_piece_at (form_of form) (drop at text)) text at (Ok (itself at to))
+pub at_run : (form : Form) (text : List ℕ) (at to : ℕ) → at < length text → ends_item (form_of form) (get_or text at 0) ≡ false → (get_or text at 0 == 92) ≡ false → LeadsTo text (at + 1) to (after (grammar.is_itself (form_of form)) (drop (at + 1) text)) → IsCharBoundary text to → StepAt (item_piece_at (form_of form) (drop at text)) text at (Ok (itself at to))
 at_run form text at to within p q leads cuts =
     subst (λ (f : grammar.PieceFront). StepAt f text at (Ok (itself at to)))
     (sym (ap (item_piece_at (form_of form)) (drop_more text at 0 within) ∙ item_last (form_of form) (get_or text at 0) (drop (at + 1) text) p q))

@@ -1,4 +1,4 @@
--- Pieces of an item, one behind the other.
+-- Pieces of an item, one after the other.
 use Rattle.std.proofs.Common.{◌≡◌, ◌<◌, ◌≤◌, ◌++◌, inl, inr, ◌⊎◌, ℕ, List, [], ◌∷◌, Result, Ok, Err, drop, length, refl, sym, ap, subst, ◌∙◌, arith, append_assoc}
 use Rattle.std.proofs.lemmas.List.{append-nil}
 use Rattle.std.specs.Str.{IsCharBoundary, IsUtf8}
@@ -6,8 +6,8 @@ use Rattle.sdc_base.specs.Gives.{Meets}
 use Rattle.sdc_base.specs.declared.memory.Stop.{Stop}
 use Rattle.sdc_base.specs.declared.memory.Stop.TheVariants.{NoMemory, Refused}
 use Rattle.source_types.specs.declared.kinds.TclKind.{TclKind}
-use Rattle.sdc_model.specs.ListItems.{AreItemPieces, bytes_of, item_piece_at, text_of}
-use Rattle.sdc_model.specs.Pieces as grammar
+use Rattle.tcl_model.specs.ListItems.{AreItemPieces, bytes_of, item_piece_at, text_of}
+use Rattle.tcl_model.specs.Pieces as grammar
 use Rattle.tcl_words.specs.declared.lists.Item.{Item}
 use Rattle.tcl_words.specs.declared.pieces.Piece.{Piece}
 use Rattle.tcl_words.specs.declared.pieces.Step.{Step}
@@ -70,10 +70,10 @@ pieces_end form text from at to item utf8 so_far step = record {
   longer (inl none) = inl none
   longer (inr less) = inr (omega (arith, less, step.1))
 
-pub pieces_break : (form : Form) (text : List ℕ) (from at : ℕ) (item : List ℕ) (kind : TclKind) → ItemSoFar form text from at item → StepAt (item_piece_at (form_of form) (drop at text)) text at (Err kind) → ItemPiecesFrom form text from (Err kind)
-pieces_break form text from at item kind so_far step =
+pub pieces_error : (form : Form) (text : List ℕ) (from at : ℕ) (item : List ℕ) (kind : TclKind) → ItemSoFar form text from at item → StepAt (item_piece_at (form_of form) (drop at text)) text at (Err kind) → ItemPiecesFrom form text from (Err kind)
+pieces_error form text from at item kind so_far step =
     (so_far.pieces, subst (λ (ps : List grammar.Piece). AreItemPieces (form_of form) ps (drop from text) (Err kind)) (append-nil so_far.pieces) (so_far.row [] (Err kind) step))
 
 pub pieces_stop : (form : Form) (text : List ℕ) (from at : ℕ) (item : List ℕ) (stop : Stop TclKind) → ItemSoFar form text from at item → Meets {T = Step} (Err stop) (StepAt (item_piece_at (form_of form) (drop at text)) text at) → Meets {T = Item} (Err stop) (ItemPiecesFrom form text from)
-pieces_stop form text from at item (Refused kind) so_far m = pieces_break form text from at item kind so_far m
+pieces_stop form text from at item (Refused kind) so_far m = pieces_error form text from at item kind so_far m
 pieces_stop form text from at item NoMemory so_far m = tt

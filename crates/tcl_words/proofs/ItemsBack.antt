@@ -4,22 +4,22 @@ use Rattle.std.proofs.lemmas.Bool.{cases_Bool, both_ways, or_parts}
 use Rattle.std.proofs.lemmas.Bool.Decides.{nat_tests}
 use Rattle.std.proofs.lemmas.List.{append-nil, length-append}
 use Rattle.std.specs.List.{list_any}
-use Rattle.sdc_model.specs.Bytes.{before, begins_with, behind, front, leads_word}
-use Rattle.sdc_model.specs.Continued.{continues}
-use Rattle.sdc_model.specs.Enclosed.{behind_open, brace}
-use Rattle.sdc_model.specs.ListItems.{AreItemPieces, AreItems, IsBracedItem, IsItem, IsItemOf, Lists, StandsItem, behind_parting, ended_closed_item, form_by, item_piece_at, may_end_item, parts_items, text_of}
-use Rattle.sdc_model.specs.ListText.{in_braces, is_taken, item_text, list_text, more_items, needs_backslashes, needs_braces, plain_item, taken_as, with_backslashes}
-use Rattle.sdc_model.specs.Pieces as grammar
-use Rattle.sdc_model.specs.Row.{found, stops}
+use Rattle.text_model.specs.Bytes.{before, begins_with, after, front, leads_word}
+use Rattle.text_model.specs.Continued.{continues}
+use Rattle.text_model.specs.Enclosed.{after_open, brace}
+use Rattle.tcl_model.specs.ListItems.{AreItemPieces, AreItems, IsBracedItem, IsItem, IsItemOf, Lists, StandsItem, after_parting, ended_closed_item, form_by, item_piece_at, may_end_item, parts_items, text_of}
+use Rattle.tcl_model.specs.ListText.{in_braces, is_taken, item_text, list_text, more_items, needs_backslashes, needs_braces, plain_item, taken_as, with_backslashes}
+use Rattle.tcl_model.specs.Pieces as grammar
+use Rattle.text_model.specs.Row.{found, stops}
 use Rattle.tcl_words.proofs.ItemGaps.{parting_nil, parting_other}
 use Rattle.tcl_words.proofs.TakenFacts.{item_plain as plain_is, item_taken as taken_is}
-use Rattle.tcl_words.proofs.TakenBack.{PiecesBack, RestBack, blank_back, end_back, item_back, no_newline_behind, not_continued, taken_itself, with_none, with_other, with_taken}
+use Rattle.tcl_words.proofs.TakenBack.{PiecesBack, RestBack, blank_back, end_back, item_back, no_newline_after, not_continued, taken_itself, with_none, with_other, with_taken}
 
 -- ---- an item that stands bare
 
 -- an item stands at a place, and no byte of it parts items
 abbrev Stands : List ℕ → List ℕ → List ℕ → Type 0
-Stands item place rest = IsItem place (found item rest) × (behind_parting place ≡ place)
+Stands item place rest = IsItem place (found item rest) × (after_parting place ≡ place)
 
 bare_by : (b : ℕ) → (b == 123) ≡ false → (b == 34) ≡ false → form_by b ≡ grammar.bare
 bare_by b p q = rw (p, q) refl
@@ -31,7 +31,7 @@ bare_stands item b bs rest p q s c back = (
   parting_other b bs s c,
 )
 
--- the byte behind a backslash continues no line
+-- the byte after a backslash continues no line
 taken_line : (b : ℕ) (t : List ℕ) → is_taken b ≡ true → begins_with 10 t ≡ false → continues (taken_as b ∷ t) ≡ false
 taken_line b t p h = elim (cases_Bool (b == 10)) [
   | inl q ↦ rw q refl
@@ -50,7 +50,7 @@ backslashes_stand b bs rest r = elim (cases_Bool (is_taken b)) [
       let e : 92 ∷ (taken_as b ∷ (with_backslashes bs ++ rest)) ≡ with_backslashes (b ∷ bs) ++ rest = ap (λ (t : List ℕ). t ++ rest) (sym (with_taken b bs p)) in
       subst (λ (t : List ℕ). Stands (b ∷ bs) t rest) e
       (bare_stands (b ∷ bs) 92 (taken_as b ∷ (with_backslashes bs ++ rest)) rest refl refl refl
-      (taken_line b (with_backslashes bs ++ rest) p (no_newline_behind bs rest r.4))
+      (taken_line b (with_backslashes bs ++ rest) p (no_newline_after bs rest r.4))
       (subst (λ (t : List ℕ). PiecesBack (b ∷ bs) t rest) (sym e) (item_back (b ∷ bs) rest r).whole))
   | inr p ↦
       let e : b ∷ (with_backslashes bs ++ rest) ≡ with_backslashes (b ∷ bs) ++ rest = ap (λ (t : List ℕ). t ++ rest) (sym (with_other b bs p)) in
@@ -78,15 +78,15 @@ same_without (b ∷ bs) p q =
 
 -- ---- an item in braces
 
-brace_closes : (begins : Bool) (rest : List ℕ) → behind_open (brace ∷ []) begins false (125 ∷ rest) ≡ Some rest
-unfolding behind_open
+brace_closes : (begins : Bool) (rest : List ℕ) → after_open (brace ∷ []) begins false (125 ∷ rest) ≡ Some rest
+unfolding after_open
 brace_closes begins rest = refl
 
-brace_passes : (b : ℕ) (begins : Bool) (bs : List ℕ) → (b == 92) ≡ false → (b == 123) ≡ false → (b == 125) ≡ false → behind_open (brace ∷ []) begins false (b ∷ bs) ≡ behind_open (brace ∷ []) (leads_word b) false bs
-unfolding behind_open
+brace_passes : (b : ℕ) (begins : Bool) (bs : List ℕ) → (b == 92) ≡ false → (b == 123) ≡ false → (b == 125) ≡ false → after_open (brace ∷ []) begins false (b ∷ bs) ≡ after_open (brace ∷ []) (leads_word b) false bs
+unfolding after_open
 brace_passes b begins bs p q r = rw (p, q, r) refl
 
-brace_back : (item rest : List ℕ) (begins : Bool) → list_any needs_backslashes item ≡ false → behind_open (brace ∷ []) begins false (item ++ 125 ∷ rest) ≡ Some rest
+brace_back : (item rest : List ℕ) (begins : Bool) → list_any needs_backslashes item ≡ false → after_open (brace ∷ []) begins false (item ++ 125 ∷ rest) ≡ Some rest
 brace_back [] rest begins h = brace_closes begins rest
 brace_back (b ∷ bs) rest begins h =
     let parts = any_parts needs_backslashes b bs h in
@@ -130,13 +130,13 @@ inside_front (b ∷ bs) h =
       passes : (c : ℕ) → needs_backslashes c ≡ false → grammar.is_itself grammar.braced c ≡ true
       passes c f = grind (arith, nat_tests)
 
-inside_behind : (bs : List ℕ) → list_any needs_backslashes bs ≡ false → behind (grammar.is_itself grammar.braced) bs ≡ []
-unfolding behind
-inside_behind [] h = refl
-inside_behind (b ∷ bs) h =
+inside_after : (bs : List ℕ) → list_any needs_backslashes bs ≡ false → after (grammar.is_itself grammar.braced) bs ≡ []
+unfolding after
+inside_after [] h = refl
+inside_after (b ∷ bs) h =
     let parts = any_parts needs_backslashes b bs h in
     let p : grammar.is_itself grammar.braced b ≡ true = passes b parts.0 in
-    rw p (inside_behind bs parts.1) where
+    rw p (inside_after bs parts.1) where
       passes : (c : ℕ) → needs_backslashes c ≡ false → grammar.is_itself grammar.braced c ≡ true
       passes c f = grind (arith, nat_tests)
 
@@ -149,8 +149,8 @@ inside_back (b ∷ bs) h =
     let parts = any_parts needs_backslashes b bs h in
     let p : (b == 92) ≡ false = backslash b parts.0 in
     let whole : grammar.with_run grammar.braced (b ∷ []) bs ≡ found (grammar.text (b ∷ bs)) [] =
-    ap (λ (t : List ℕ). found (grammar.text (b ∷ t)) (behind (grammar.is_itself grammar.braced) bs)) (inside_front bs parts.1)
-    ∙ ap (λ (t : List ℕ). found (grammar.text (b ∷ bs)) t) (inside_behind bs parts.1) in
+    ap (λ (t : List ℕ). found (grammar.text (b ∷ t)) (after (grammar.is_itself grammar.braced) bs)) (inside_front bs parts.1)
+    ∙ ap (λ (t : List ℕ). found (grammar.text (b ∷ bs)) t) (inside_after bs parts.1) in
     (grammar.text (b ∷ bs) ∷ [], ([], inside_first b bs p ∙ whole, inside_end), append-nil (b ∷ bs)) where
       backslash : (c : ℕ) → needs_backslashes c ≡ false → (c == 92) ≡ false
       backslash c f = grind (arith, nat_tests)
@@ -199,9 +199,9 @@ more_back (item ∷ items) = blank_back (item_text item ++ more_items items)
 stands_there : (item place rest : List ℕ) → Stands item place rest → StandsItem place (found item rest)
 stands_there item place rest s = subst (λ (t : List ℕ). IsItem t (found item rest)) (sym s.1) s.0
 
-behind_blank : (place : List ℕ) → behind_parting (32 ∷ place) ≡ behind_parting place
-unfolding behind_parting
-behind_blank place = refl
+after_blank : (place : List ℕ) → after_parting (32 ∷ place) ≡ after_parting place
+unfolding after_parting
+after_blank place = refl
 
 ends_there : AreItems [] [] None
 ends_there = subst (λ (t : List ℕ). IsItem t (stops None)) (sym parting_nil) refl
@@ -211,7 +211,7 @@ rows_back [] = ends_there
 rows_back (item ∷ items) =
     let there = stands_there item (item_text item ++ more_items items) (more_items items) (item_stands item (more_items items) (more_back items)) in (
       more_items items,
-      subst (λ (t : List ℕ). IsItem t (found item (more_items items))) (sym (behind_blank (item_text item ++ more_items items))) there,
+      subst (λ (t : List ℕ). IsItem t (found item (more_items items))) (sym (after_blank (item_text item ++ more_items items))) there,
       rows_back items,
     )
 

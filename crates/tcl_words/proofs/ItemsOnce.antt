@@ -1,12 +1,12 @@
 -- The grammar of lists relates one outcome: the items of a text, or one fault, and never two of them.
 use Rattle.std.proofs.Common.{◌≡◌, ℕ, List, [], ◌∷◌, Option, Some, None, Result, Ok, Err, sym, ap, ◌∙◌}
 use Rattle.source_types.specs.declared.kinds.TclKind.{TclKind}
-use Rattle.sdc_model.specs.Bytes.{before}
-use Rattle.sdc_model.specs.Enclosed.{behind_brace}
-use Rattle.sdc_model.specs.ListItems.{AreItemPieces, IsBracedItem, IsItem, IsItemOf, ItemFront, Lists, StandsItem, behind_parting, ended_bare_item, ended_closed_item, form_by, item_piece_at}
-use Rattle.sdc_model.specs.Pieces as grammar
-use Rattle.sdc_model.specs.Row.{HasOne}
-use Rattle.sdc_model.proofs.RowFacts.{row_once}
+use Rattle.text_model.specs.Bytes.{before}
+use Rattle.text_model.specs.Enclosed.{after_brace}
+use Rattle.tcl_model.specs.ListItems.{AreItemPieces, IsBracedItem, IsItem, IsItemOf, ItemFront, Lists, StandsItem, after_parting, ended_bare_item, ended_closed_item, form_by, item_piece_at}
+use Rattle.tcl_model.specs.Pieces as grammar
+use Rattle.text_model.specs.Row.{HasOne}
+use Rattle.text_model.proofs.RowFacts.{row_once}
 
 pieces_once : (form : grammar.Form) (ps qs : List grammar.Piece) (text : List ℕ) (e f : Result (List ℕ) TclKind) → AreItemPieces form ps text e → AreItemPieces form qs text f → (ps ≡ qs) × (e ≡ f)
 pieces_once form ps qs text e f r s = row_once (λ place stands. item_piece_at form place ≡ stands) (λ p a b x y. sym x ∙ y) ps qs text e f r s
@@ -18,7 +18,7 @@ braced_once inside (Some rest) f g x y =
     x.2 ∙ (ap (λ ps. ended_closed_item ps (Ok rest)) one.0 ∙ sym y.2)
 
 item_once : (form : grammar.Form) (b : ℕ) (bs : List ℕ) (f g : ItemFront) → IsItemOf form b bs f → IsItemOf form b bs g → f ≡ g
-item_once grammar.braced b bs f g x y = braced_once bs (behind_brace bs) f g x y
+item_once grammar.braced b bs f g x y = braced_once bs (after_brace bs) f g x y
 item_once grammar.quoted b bs f g x y =
     let one = pieces_once grammar.quoted x.0 y.0 bs x.1 y.1 x.2 y.2 in
     x.3 ∙ (ap (λ ps. ended_closed_item ps x.1) one.0 ∙ (ap (λ e. ended_closed_item y.0 e) one.1 ∙ sym y.3))
@@ -31,7 +31,7 @@ begins_once [] f g x y = x ∙ sym y
 begins_once (b ∷ bs) f g x y = item_once (form_by b) b bs f g x y
 
 stands_once : (text : List ℕ) → HasOne StandsItem text
-stands_once text f g x y = begins_once (behind_parting text) f g x y
+stands_once text f g x y = begins_once (after_parting text) f g x y
 
 no_end : (kind : TclKind) → None ≡ Some kind → ⊥
 no_end kind h = cc

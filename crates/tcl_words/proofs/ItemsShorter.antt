@@ -1,25 +1,25 @@
--- What is left of a text behind a piece of an item, and behind the end of one, is shorter.
+-- What is left of a text after a piece of an item, and after the end of one, is shorter.
 use Rattle.std.proofs.Common.{◌≡◌, ◌≤◌, ◌+◌, ◌==◌, inl, inr, ℕ, List, [], ◌∷◌, Result, Ok, Err, length, if◌then◌else◌, ap, arith}
 use Rattle.std.proofs.lemmas.Bool.{cases_Bool}
 use Rattle.source_types.specs.declared.kinds.TclKind.{TclKind}
 use Rattle.source_types.specs.declared.kinds.TclKind.TheVariants.{Unclosed}
-use Rattle.sdc_model.specs.Bytes.{behind, is_space}
-use Rattle.sdc_model.specs.Continued.{behind_continued, behind_newline, continues}
-use Rattle.sdc_model.specs.ListItems.{ends_item, item_piece_at}
-use Rattle.sdc_model.specs.Pieces as grammar
-use Rattle.sdc_model.specs.Row.{found, stops}
-use Rattle.tcl_words.proofs.PieceFacts.{behind_short}
+use Rattle.text_model.specs.Bytes.{after, is_space}
+use Rattle.text_model.specs.Continued.{after_continued, after_newline, continues}
+use Rattle.tcl_model.specs.ListItems.{ends_item, item_piece_at}
+use Rattle.tcl_model.specs.Pieces as grammar
+use Rattle.text_model.specs.Row.{found, stops}
+use Rattle.tcl_words.proofs.PieceFacts.{after_short}
 
-newline_short : (xs : List ℕ) → length (behind_newline xs) ≤ length xs
-unfolding behind_newline
+newline_short : (xs : List ℕ) → length (after_newline xs) ≤ length xs
+unfolding after_newline
 newline_short [] = omega arith
 newline_short (b ∷ bs) = elim (cases_Bool (b == 10)) [
   | inl p ↦ rw p (omega arith)
   | inr p ↦ rw p (omega (arith, newline_short bs))
 ]
 
-continued_short : (xs : List ℕ) → length (behind_continued xs) ≤ length xs
-continued_short xs = omega (arith, behind_short is_space (behind_newline xs), newline_short xs)
+continued_short : (xs : List ℕ) → length (after_continued xs) ≤ length xs
+continued_short xs = omega (arith, after_short is_space (after_newline xs), newline_short xs)
 
 rest_is : (p q : grammar.Piece) (r s : List ℕ) → ◌≡◌ {A = grammar.PieceFront} (found p r) (found q s) → r ≡ s
 rest_is p q r s e = cc
@@ -30,15 +30,15 @@ end_is r s e = cc
 no_found : {A : Type 0} (end : Result (List ℕ) TclKind) (p : grammar.Piece) (r : List ℕ) → ◌≡◌ {A = grammar.PieceFront} (stops end) (found p r) → A
 no_found end p r e = absurd (cc)
 
--- behind a piece
+-- after a piece
 run_short : (form : grammar.Form) (bytes bs rest : List ℕ) (p : grammar.Piece) → grammar.with_run form bytes bs ≡ found p rest → length rest ≤ length bs
 run_short form bytes bs rest p e =
-    let same : behind (grammar.is_itself form) bs ≡ rest = rest_is _ p _ rest e in
-    omega (arith, ap length same, behind_short (grammar.is_itself form) bs)
+    let same : after (grammar.is_itself form) bs ≡ rest = rest_is _ p _ rest e in
+    omega (arith, ap length same, after_short (grammar.is_itself form) bs)
 
 continued_piece : (form : grammar.Form) (bs rest : List ℕ) (p : grammar.Piece) → grammar.continued form bs ≡ found p rest → length rest ≤ length bs
-continued_piece grammar.braced bs rest p e = let same : behind_continued bs ≡ rest = rest_is _ p _ rest e in omega (arith, ap length same, continued_short bs)
-continued_piece grammar.quoted bs rest p e = let same : behind_continued bs ≡ rest = rest_is _ p _ rest e in omega (arith, ap length same, continued_short bs)
+continued_piece grammar.braced bs rest p e = let same : after_continued bs ≡ rest = rest_is _ p _ rest e in omega (arith, ap length same, continued_short bs)
+continued_piece grammar.quoted bs rest p e = let same : after_continued bs ≡ rest = rest_is _ p _ rest e in omega (arith, ap length same, continued_short bs)
 continued_piece grammar.bare bs rest p e = no_found (Ok (92 ∷ bs)) p rest e
 
 abbrev outside : grammar.Form → ℕ → List ℕ → grammar.PieceFront
@@ -65,7 +65,7 @@ escaped_piece grammar.braced b bs rest p e = run_short grammar.braced (92 ∷ (b
 escaped_piece grammar.quoted b bs rest p e = outside_piece grammar.quoted b bs rest p e
 escaped_piece grammar.bare b bs rest p e = outside_piece grammar.bare b bs rest p e
 
-backslash_piece : (form : grammar.Form) (bs rest : List ℕ) (p : grammar.Piece) → grammar.behind_backslash form bs ≡ found p rest → length rest ≤ length bs
+backslash_piece : (form : grammar.Form) (bs rest : List ℕ) (p : grammar.Piece) → grammar.after_backslash form bs ≡ found p rest → length rest ≤ length bs
 backslash_piece form [] rest p e = omega (arith, ap length (rest_is (grammar.text (92 ∷ [])) p [] rest e))
 backslash_piece form (c ∷ cs) rest p e = elim (cases_Bool (continues (c ∷ cs))) [
   | inl q ↦ let f : grammar.continued form (c ∷ cs) ≡ found p rest = rw q at e in continued_piece form (c ∷ cs) rest p f
@@ -82,7 +82,7 @@ unfolding item_piece_at
 piece_short form b bs rest p e = elim (cases_Bool (ends_item form b)) [
   | inl q ↦ let f : grammar.at_word_end form b bs ≡ found p rest = rw q at e in word_end_piece form b bs rest p f
   | inr q ↦ elim (cases_Bool (b == 92)) [
-    | inl r ↦ let f : grammar.behind_backslash form bs ≡ found p rest = rw (q, r) at e in backslash_piece form bs rest p f
+    | inl r ↦ let f : grammar.after_backslash form bs ≡ found p rest = rw (q, r) at e in backslash_piece form bs rest p f
     | inr r ↦ let f : grammar.with_run form (b ∷ []) bs ≡ found p rest = rw (q, r) at e in run_short form (b ∷ []) bs rest p f
   ]
 ]
@@ -93,7 +93,7 @@ text_end_piece grammar.braced rest p e = no_found (Ok []) p rest e
 text_end_piece grammar.quoted rest p e = no_found (Err Unclosed) p rest e
 text_end_piece grammar.bare rest p e = no_found (Ok []) p rest e
 
--- behind the end of an item
+-- after the end of an item
 no_end : {A : Type 0} (p : grammar.Piece) (r : List ℕ) (end : Result (List ℕ) TclKind) → ◌≡◌ {A = grammar.PieceFront} (found p r) (stops end) → A
 no_end p r end e = absurd (cc)
 
@@ -116,7 +116,7 @@ continued_end grammar.braced bs rest e = no_end _ _ (Ok rest) e
 continued_end grammar.quoted bs rest e = no_end _ _ (Ok rest) e
 continued_end grammar.bare bs rest e = omega (arith, ap length (end_is (92 ∷ bs) rest e))
 
-backslash_end : (form : grammar.Form) (bs rest : List ℕ) → grammar.behind_backslash form bs ≡ stops (Ok rest) → length rest ≤ length bs + 1
+backslash_end : (form : grammar.Form) (bs rest : List ℕ) → grammar.after_backslash form bs ≡ stops (Ok rest) → length rest ≤ length bs + 1
 backslash_end form [] rest e = no_end _ _ (Ok rest) e
 backslash_end form (c ∷ cs) rest e = elim (cases_Bool (continues (c ∷ cs))) [
   | inl q ↦ let f : grammar.continued form (c ∷ cs) ≡ stops (Ok rest) = rw q at e in continued_end form (c ∷ cs) rest f
@@ -136,7 +136,7 @@ end_short grammar.bare [] rest e = omega (arith, ap length (end_is [] rest e))
 end_short form (b ∷ bs) rest e = elim (cases_Bool (ends_item form b)) [
   | inl q ↦ let f : grammar.at_word_end form b bs ≡ stops (Ok rest) = rw q at e in omega (arith, word_end_short form b bs rest f)
   | inr q ↦ elim (cases_Bool (b == 92)) [
-    | inl r ↦ let f : grammar.behind_backslash form bs ≡ stops (Ok rest) = rw (q, r) at e in omega (arith, backslash_end form bs rest f)
+    | inl r ↦ let f : grammar.after_backslash form bs ≡ stops (Ok rest) = rw (q, r) at e in omega (arith, backslash_end form bs rest f)
     | inr r ↦ let f : grammar.with_run form (b ∷ []) bs ≡ stops (Ok rest) = rw (q, r) at e in no_end _ _ (Ok rest) f
   ]
 ]

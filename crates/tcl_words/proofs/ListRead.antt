@@ -1,16 +1,16 @@
--- What a text is read as, step by step, the grammar of lists relates to it, and nothing else: what is left behind each
+-- What a text is read as, step by step, the grammar of lists relates to it, and nothing else: what is left after each
 -- piece and each item is shorter, so that the steps are enough.
 use Rattle.std.proofs.Common.{◌≡◌, ◌<◌, ◌≤◌, ◌==◌, ◌&&◌, inl, inr, ◌⊎◌, ℕ, zero, suc, Bool, true, false, List, [], ◌∷◌, Option, Some, None, Result, Ok, Err, length, refl, sym, ap, subst, ◌∙◌, arith}
 use Rattle.std.proofs.lemmas.Bool.{cases_Bool}
 use Rattle.source_types.specs.declared.kinds.TclKind.{TclKind}
 use Rattle.source_types.specs.declared.kinds.TclKind.TheVariants.{ExtraAfterBrace, Unclosed}
-use Rattle.sdc_model.specs.Bytes.{before, leads_word}
-use Rattle.sdc_model.specs.Continued.{continues}
-use Rattle.sdc_model.specs.Enclosed.{Open, behind_brace, behind_open, brace, opened}
-use Rattle.sdc_model.specs.ListItems.{AreItemPieces, IsBracedItem, IsItem, IsItemOf, ItemFront, Lists, StandsItem, behind_parting, ended_bare_item, ended_closed_item, form_by, item_piece_at, may_end_item, parts_items, text_of}
-use Rattle.sdc_model.specs.ListReading.{ItemPieces, braced_item, by_item, by_piece, item_at, item_of, items_in, list_of, pieces_in, pieces_of, with_item}
-use Rattle.sdc_model.specs.Pieces as grammar
-use Rattle.sdc_model.specs.Row.{found, stops}
+use Rattle.text_model.specs.Bytes.{before, leads_word}
+use Rattle.text_model.specs.Continued.{continues}
+use Rattle.text_model.specs.Enclosed.{Open, after_brace, after_open, brace, opened}
+use Rattle.tcl_model.specs.ListItems.{AreItemPieces, IsBracedItem, IsItem, IsItemOf, ItemFront, Lists, StandsItem, after_parting, ended_bare_item, ended_closed_item, form_by, item_piece_at, may_end_item, parts_items, text_of}
+use Rattle.tcl_model.specs.ListReading.{ItemPieces, braced_item, by_item, by_piece, item_at, item_of, items_in, list_of, pieces_in, pieces_of, with_item}
+use Rattle.tcl_model.specs.Pieces as grammar
+use Rattle.text_model.specs.Row.{found, stops}
 use Rattle.tcl_words.specs.ItemReads.{starts_item}
 use Rattle.tcl_words.proofs.ItemFacts.{bare_goes, inner_end}
 use Rattle.tcl_words.proofs.ItemGaps.{parting_starts}
@@ -19,7 +19,7 @@ use Rattle.tcl_words.proofs.ItemsShorter.{end_short, piece_short, text_end_piece
 
 -- ---- pieces
 
--- these pieces stand at a place, and less is left behind them
+-- these pieces stand at a place, and less is left after them
 record ArePieces (form : grammar.Form) (text : List ℕ) (read : ItemPieces) : Type 0 where
   row : AreItemPieces form read.pieces text read.end
   short : (rest : List ℕ) → read.end ≡ Ok rest → length rest ≤ length text
@@ -50,19 +50,19 @@ are_pieces form text = by_front (length text) form text (omega arith) (item_piec
 some_is : (r s : List ℕ) → Some r ≡ Some s → r ≡ s
 some_is r s e = cc
 
-open_short : (opens : List Open) (begins taken : Bool) (text rest : List ℕ) → behind_open opens begins taken text ≡ Some rest → length rest ≤ length text
-unfolding behind_open
+open_short : (opens : List Open) (begins taken : Bool) (text rest : List ℕ) → after_open opens begins taken text ≡ Some rest → length rest ≤ length text
+unfolding after_open
 open_short [] begins taken text rest e = omega (arith, ap length (some_is text rest e))
 open_short (o ∷ outer) begins taken [] rest e = let f : ⊥ = cc in absurd f
 open_short (o ∷ outer) begins true (b ∷ bs) rest e = omega (arith, open_short (o ∷ outer) (b == 10) false bs rest e)
 open_short (o ∷ outer) begins false (b ∷ bs) rest e = elim (cases_Bool (b == 92)) [
-  | inl p ↦ let f : behind_open (o ∷ outer) false true bs ≡ Some rest = rw p at e in omega (arith, open_short (o ∷ outer) false true bs rest f)
+  | inl p ↦ let f : after_open (o ∷ outer) false true bs ≡ Some rest = rw p at e in omega (arith, open_short (o ∷ outer) false true bs rest f)
   | inr p ↦
-      let f : behind_open (opened o outer begins b) (leads_word b) false bs ≡ Some rest = rw p at e in
+      let f : after_open (opened o outer begins b) (leads_word b) false bs ≡ Some rest = rw p at e in
       omega (arith, open_short (opened o outer begins b) (leads_word b) false bs rest f)
 ]
 
--- this item stands at a byte and the bytes behind it, and less is left behind it
+-- this item stands at a byte and the bytes after it, and less is left after it
 record IsOne (form : grammar.Form) (b : ℕ) (bs : List ℕ) (read : ItemFront) : Type 0 where
   is : IsItemOf form b bs read
   short : (item rest : List ℕ) → read ≡ found item rest → length rest ≤ length bs
@@ -109,7 +109,7 @@ braced_one bs (Some rest) =
 
 one_item : (form : grammar.Form) (b : ℕ) (bs : List ℕ) → starts_item (b ∷ bs) ≡ true → IsOne form b bs (item_of form b bs)
 one_item grammar.braced b bs s =
-    let closed = braced_one bs (behind_brace bs) in
+    let closed = braced_one bs (after_brace bs) in
     record { is = closed.is; short = λ item rest e. open_short (brace ∷ []) false false bs rest (closed.short item rest e) }
 one_item grammar.quoted b bs s =
     let inside = are_pieces grammar.quoted bs in
@@ -143,8 +143,8 @@ by_one n text (stops None) s more = s
 by_one n text (stops (Some kind)) s more = ([], s)
 by_one n text (found item rest) s more = item_more item text rest (items_in n rest) s (more item rest refl)
 
-parting_short : (xs : List ℕ) → length (behind_parting xs) ≤ length xs
-unfolding behind_parting
+parting_short : (xs : List ℕ) → length (after_parting xs) ≤ length xs
+unfolding after_parting
 parting_short [] = omega arith
 parting_short (b ∷ bs) = elim (cases_Bool (parts_items b)) [
   | inl p ↦ rw p (omega (arith, parting_short bs))
@@ -154,19 +154,19 @@ parting_short (b ∷ bs) = elim (cases_Bool (parts_items b)) [
   ]
 ]
 
-from_start : (n : ℕ) (text start : List ℕ) → behind_parting text ≡ start → length start ≤ n → (start ≡ []) ⊎ (starts_item start ≡ true) → Lists text (by_item (item_at start) (items_in n))
+from_start : (n : ℕ) (text start : List ℕ) → after_parting text ≡ start → length start ≤ n → (start ≡ []) ⊎ (starts_item start ≡ true) → Lists text (by_item (item_at start) (items_in n))
 from_start n text [] e h s = subst (λ (t : List ℕ). IsItem t (stops None)) (sym e) refl
 from_start n text (b ∷ bs) e h (inl none) = let f : ⊥ = cc in absurd f
 from_start zero text (b ∷ bs) e h (inr s) = absurd (omega (arith, h))
 from_start (suc m) text (b ∷ bs) e h (inr s) =
     let here = one_item (form_by b) b bs s in
     by_one (suc m) text (item_of (form_by b) b bs) (subst (λ (t : List ℕ). IsItem t (item_of (form_by b) b bs)) (sym e) here.is)
-    (λ item rest found_. from_start m rest (behind_parting rest) refl (omega (arith, h, here.short item rest found_, parting_short rest)) (parting_starts rest))
+    (λ item rest found_. from_start m rest (after_parting rest) refl (omega (arith, h, here.short item rest found_, parting_short rest)) (parting_starts rest))
 
 -- what a text is read as, the grammar relates to it
 pub list_of_stands : (text : List ℕ) → Lists text (list_of text)
 unfolding list_of
-list_of_stands text = from_start (length text) text (behind_parting text) refl (omega (arith, parting_short text)) (parting_starts text)
+list_of_stands text = from_start (length text) text (after_parting text) refl (omega (arith, parting_short text)) (parting_starts text)
 
 -- and nothing else
 pub list_of_is : (text : List ℕ) (r : Result (List (List ℕ)) TclKind) → Lists text r → list_of text ≡ r

@@ -5,13 +5,13 @@ use Rattle.sdc_base.specs.declared.memory.At.{At}
 use Rattle.source_types.specs.declared.commands.Command.{Command}
 use Rattle.source_types.specs.declared.commands.Next.{Next}
 use Rattle.source_types.specs.declared.kinds.TclKind.{TclKind}
-use Rattle.sdc_model.specs.Bytes.{before}
-use Rattle.sdc_model.specs.Commands.{ArePieces, CommandFront, FirstFrom, IsBraced, IsCommand, IsWordOf, Opening, Place, Splits, StandsCommand, StandsWord, WordFront, bare_opens, brace_opens, command_end, command_place, ended_bare, ended_closed, ended_command, opening, quote_opens}
-use Rattle.sdc_model.specs.Continued.{behind_gap, from_command, parting}
-use Rattle.sdc_model.specs.Enclosed.{behind_brace}
-use Rattle.sdc_model.specs.Pieces as grammar
-use Rattle.sdc_model.specs.Row.{HasOne, found, stops}
-use Rattle.sdc_model.proofs.RowFacts.{not_both, row_once, same_place, same_thing}
+use Rattle.text_model.specs.Bytes.{before}
+use Rattle.tcl_model.specs.Commands.{ArePieces, CommandFront, FirstFrom, IsBraced, IsCommand, IsWordOf, Opening, Place, Splits, StandsCommand, StandsWord, WordFront, bare_opens, brace_opens, command_end, command_place, ended_bare, ended_closed, ended_command, opening, quote_opens}
+use Rattle.text_model.specs.Continued.{after_gap, from_command, parting}
+use Rattle.text_model.specs.Enclosed.{after_brace}
+use Rattle.tcl_model.specs.Pieces as grammar
+use Rattle.text_model.specs.Row.{HasOne, found, stops}
+use Rattle.text_model.proofs.RowFacts.{not_both, row_once, same_place, same_thing}
 
 -- ---- words
 
@@ -26,7 +26,7 @@ braced_once text (Some rest) f g x y =
 
 word_once : (o : Opening) (text : List ℕ) (f g : WordFront) → IsWordOf o text f → IsWordOf o text g → f ≡ g
 word_once command_end text f g x y = x ∙ sym y
-word_once (brace_opens inside) text f g x y = braced_once inside (behind_brace inside) f g x y
+word_once (brace_opens inside) text f g x y = braced_once inside (after_brace inside) f g x y
 word_once (quote_opens inside) text f g x y =
     let one = pieces_once grammar.quoted x.0 y.0 inside x.1 y.1 x.2 y.2 in
     x.3 ∙ (ap (λ ps. ended_closed ps x.1) one.0 ∙ (ap (λ e. ended_closed y.0 e) one.1 ∙ sym y.3))
@@ -35,7 +35,7 @@ word_once bare_opens text f g x y =
     x.3 ∙ (ap (λ ps. ended_bare ps x.1) one.0 ∙ (ap (λ e. ended_bare y.0 e) one.1 ∙ sym y.3))
 
 stands_once : (text : List ℕ) → HasOne StandsWord text
-stands_once text f g x y = word_once (opening (behind_gap false text)) (behind_gap false text) f g x y
+stands_once text f g x y = word_once (opening (after_gap false text)) (after_gap false text) f g x y
 
 -- ---- commands
 
@@ -48,7 +48,7 @@ command_once (b ∷ bs) place f g x y =
 pub commands_once : (place : Place) → HasOne StandsCommand place
 commands_once place f g x y = command_once (from_command parting place.text) (command_place place) f g x y
 
--- ---- what stands at or behind a place
+-- ---- what stands at or after a place
 
 abbrev next_of : Command → ℕ → ℕ → Next
 next_of command end line = record { command = command; end = end; line = line }

@@ -9,11 +9,11 @@ use Rattle.source_types.specs.declared.commands.Word.{Word}
 use Rattle.source_types.specs.declared.expressions.ExpressionToken.TheVariants as token
 use Rattle.source_types.specs.declared.kinds.TclKind.{TclKind}
 use Rattle.source_types.specs.declared.kinds.TclKind.TheVariants.{BadExpr}
-use Rattle.sdc_model.specs.Enclosed.{behind_brace}
-use Rattle.sdc_model.specs.ExpressionTokens.{IsBracedToken, IsQuotedToken, TokenFront, malformed, script_token, variable_token}
-use Rattle.sdc_model.specs.Pieces as grammar
-use Rattle.sdc_model.specs.Row.{found, stops}
-use Rattle.sdc_model.specs.WordParts.{word_of_pieces}
+use Rattle.text_model.specs.Enclosed.{after_brace}
+use Rattle.tcl_model.specs.ExpressionTokens.{IsBracedToken, IsQuotedToken, TokenFront, malformed, script_token, variable_token}
+use Rattle.tcl_model.specs.Pieces as grammar
+use Rattle.text_model.specs.Row.{found, stops}
+use Rattle.tcl_model.specs.WordParts.{word_of_pieces}
 use Rattle.tcl_words.specs.declared.pieces.Piece.{Piece}
 use Rattle.tcl_words.specs.declared.pieces.Step.{Step}
 use Rattle.tcl_words.specs.declared.pieces.Step.TheVariants.{Ends, Found}
@@ -27,7 +27,7 @@ use Rattle.tcl_words.proofs.WordFacts.{inner_row, inner_whole}
 
 -- ---- braced
 
-pub braced_open : (text : List ℕ) (from : ℕ) → behind_brace (drop (from + 1) text) ≡ None → OperandAt (IsBracedToken (drop (from + 1) text) (behind_brace (drop (from + 1) text))) text from (Err BadExpr)
+pub braced_open : (text : List ℕ) (from : ℕ) → after_brace (drop (from + 1) text) ≡ None → OperandAt (IsBracedToken (drop (from + 1) text) (after_brace (drop (from + 1) text))) text from (Err BadExpr)
 braced_open text from none =
     (refl, subst (λ o. IsBracedToken (drop (from + 1) text) o (stops malformed)) (sym none) refl)
 
@@ -35,13 +35,13 @@ pub braced_stop : (Stands : TokenFront → Type 0) (text inner : List ℕ) (from
 braced_stop Stands text inner from (Refused kind) m = absurd (inner_whole m.0 inner kind m.1)
 braced_stop Stands text inner from NoMemory m = tt
 
-pub braced_found : (text inner : List ℕ) (from to : ℕ) (spelled : Spelled) → IsUtf8 text → ClosesAt text (from + 1) to (behind_brace (drop (from + 1) text)) → inner ≡ between text (from + 1) (to - 1) → PiecesTo Braced inner 0 spelled → OperandAt (IsBracedToken (drop (from + 1) text) (behind_brace (drop (from + 1) text))) text from (Ok (record { word = spelled.word; end = to }))
+pub braced_found : (text inner : List ℕ) (from to : ℕ) (spelled : Spelled) → IsUtf8 text → ClosesAt text (from + 1) to (after_brace (drop (from + 1) text)) → inner ≡ between text (from + 1) (to - 1) → PiecesTo Braced inner 0 spelled → OperandAt (IsBracedToken (drop (from + 1) text) (after_brace (drop (from + 1) text))) text from (Ok (record { word = spelled.word; end = to }))
 braced_found text inner from to spelled utf8 c e p = (
   subst (λ o. IsBracedToken (drop (from + 1) text) o (found (token.Word spelled.word) (drop to text))) (sym c.is)
       (p.pieces, inner_row text inner from to spelled c e p, ap (λ (w : Word). found (token.Word w) (drop to text)) p.word),
   omega (arith, c.forward),
   c.within,
-  c.behind utf8,
+  c.after utf8,
 )
 
 -- ---- quoted

@@ -7,9 +7,9 @@ use Rattle.std.specs.Str.{IsCharBoundary}
 use Rattle.sdc_base.specs.Gives.{Meets}
 use Rattle.sdc_base.specs.declared.memory.Stop.{Stop}
 use Rattle.source_types.specs.declared.kinds.TclKind.{TclKind}
-use Rattle.sdc_model.specs.Bytes.{before, behind, front}
-use Rattle.sdc_model.specs.Pieces as grammar
-use Rattle.sdc_model.specs.Row.{found, stops}
+use Rattle.text_model.specs.Bytes.{before, after, front}
+use Rattle.tcl_model.specs.Pieces as grammar
+use Rattle.text_model.specs.Row.{found, stops}
 use Rattle.tcl_words.specs.declared.pieces.Kind.{Kind}
 use Rattle.tcl_words.specs.declared.pieces.Kind.TheVariants.{Text}
 use Rattle.tcl_words.specs.declared.pieces.Step.{Step}
@@ -26,21 +26,21 @@ use Rattle.tcl_words.proofs.RunFacts.{drop_all, keeps_one}
 take_cons : (n b : ℕ) (bs : List ℕ) → take (n + 1) (b ∷ bs) ≡ b ∷ take n bs
 take_cons n b bs = let e : n + 1 ≡ suc n = omega arith in rw e refl
 
-pub behind_short : (test : ℕ → Bool) (xs : List ℕ) → length (behind test xs) ≤ length xs
-unfolding behind
-behind_short test [] = omega arith
-behind_short test (b ∷ bs) = elim (cases_Bool (test b)) [
-  | inl p ↦ rw p (omega (arith, behind_short test bs))
+pub after_short : (test : ℕ → Bool) (xs : List ℕ) → length (after test xs) ≤ length xs
+unfolding after
+after_short test [] = omega arith
+after_short test (b ∷ bs) = elim (cases_Bool (test b)) [
+  | inl p ↦ rw p (omega (arith, after_short test bs))
   | inr p ↦ rw p (omega arith)
 ]
 
-front_before : (test : ℕ → Bool) (xs : List ℕ) → front test xs ≡ before xs (behind test xs)
-unfolding front behind
+front_before : (test : ℕ → Bool) (xs : List ℕ) → front test xs ≡ before xs (after test xs)
+unfolding front after
 front_before test [] = refl
 front_before test (b ∷ bs) = elim (cases_Bool (test b)) [
   | inl p ↦
-      let more : length (b ∷ bs) - length (behind test bs) ≡ length bs - length (behind test bs) + 1 = omega (arith, behind_short test bs) in
-      rw p (ap (λ (t : List ℕ). b ∷ t) (front_before test bs) ∙ (sym (take_cons (length bs - length (behind test bs)) b bs) ∙ ap (λ (n : ℕ). take n (b ∷ bs)) (sym more)))
+      let more : length (b ∷ bs) - length (after test bs) ≡ length bs - length (after test bs) + 1 = omega (arith, after_short test bs) in
+      rw p (ap (λ (t : List ℕ). b ∷ t) (front_before test bs) ∙ (sym (take_cons (length bs - length (after test bs)) b bs) ∙ ap (λ (n : ℕ). take n (b ∷ bs)) (sym more)))
   | inr p ↦
       let none : length (b ∷ bs) - length (b ∷ bs) ≡ 0 = omega arith in
       rw (p, none) refl
@@ -57,7 +57,7 @@ inner_is text from to less within =
     let n : length (drop (from + 1) text) - length (125 ∷ drop to text) ≡ to - 1 - (from + 1) = omega (arith, less, within, length-drop (from + 1) text, length-drop to text) in
     ap (λ (k : ℕ). take k (drop (from + 1) text)) n
 
-pub front_between : (test : ℕ → Bool) (text : List ℕ) (from to : ℕ) → LeadsTo text from to (behind test (drop from text)) → front test (drop from text) ≡ between text from to
+pub front_between : (test : ℕ → Bool) (text : List ℕ) (from to : ℕ) → LeadsTo text from to (after test (drop from text)) → front test (drop from text) ≡ between text from to
 front_between test text from to leads =
     front_before test (drop from text) ∙ (ap (before (drop from text)) leads.is ∙ before_between text from to leads.forward leads.within)
 
@@ -86,21 +86,21 @@ pub itself_at : (front_ : grammar.PieceFront) (text : List ℕ) (at from to : �
 itself_at front_ text at from to e forward order within keeps_from keeps_to =
     (e, record { forward = forward; within = within; order = order; inside = within; keeps_from = keeps_from; keeps_to = keeps_to; keeps_next = keeps_to })
 
--- behind these bytes those that stand for themselves
-pub run_found : (form : grammar.Form) (text bytes : List ℕ) (from run to : ℕ) → LeadsTo text run to (behind (grammar.is_itself form) (drop run text)) → between text from to ≡ bytes ++ between text run to → grammar.with_run form bytes (drop run text) ≡ found (grammar.text (between text from to)) (drop to text)
+-- after these bytes those that stand for themselves
+pub run_found : (form : grammar.Form) (text bytes : List ℕ) (from run to : ℕ) → LeadsTo text run to (after (grammar.is_itself form) (drop run text)) → between text from to ≡ bytes ++ between text run to → grammar.with_run form bytes (drop run text) ≡ found (grammar.text (between text from to)) (drop to text)
 run_found form text bytes from run to leads e =
-    ap (λ (t : List ℕ). found (grammar.text (bytes ++ t)) (behind (grammar.is_itself form) (drop run text))) (front_between (grammar.is_itself form) text run to leads)
+    ap (λ (t : List ℕ). found (grammar.text (bytes ++ t)) (after (grammar.is_itself form) (drop run text))) (front_between (grammar.is_itself form) text run to leads)
     ∙ (ap (λ (t : List ℕ). found (grammar.text (bytes ++ between text run to)) t) leads.is ∙ ap (λ (t : List ℕ). found (grammar.text t) (drop to text)) (sym e))
 
--- a byte and the run behind it
-pub run_at : (form : grammar.Form) (text : List ℕ) (at to : ℕ) → at < length text → LeadsTo text (at + 1) to (behind (grammar.is_itself form) (drop (at + 1) text)) → IsCharBoundary text to → StepAt (grammar.with_run form (get_or text at 0 ∷ []) (drop (at + 1) text)) text at (Ok (itself at to))
+-- a byte and the run after it
+pub run_at : (form : grammar.Form) (text : List ℕ) (at to : ℕ) → at < length text → LeadsTo text (at + 1) to (after (grammar.is_itself form) (drop (at + 1) text)) → IsCharBoundary text to → StepAt (grammar.with_run form (get_or text at 0 ∷ []) (drop (at + 1) text)) text at (Ok (itself at to))
 run_at form text at to within leads cuts =
     itself_at (grammar.with_run form (get_or text at 0 ∷ []) (drop (at + 1) text)) text at at to
     (run_found form text (get_or text at 0 ∷ []) at (at + 1) to leads (between_more text at to (omega (arith, leads.forward)) leads.within))
     (omega (arith, leads.forward)) (omega (arith, leads.forward)) leads.within (λ utf8 here. here) (λ utf8 here. cuts)
 
--- a byte behind a backslash and the run behind it
-pub taken_at : (form : grammar.Form) (text : List ℕ) (at to : ℕ) → at + 1 < length text → get_or text at 0 ≡ 92 → LeadsTo text (at + 2) to (behind (grammar.is_itself form) (drop (at + 2) text)) → IsCharBoundary text to → StepAt (grammar.with_run form (get_or text (at + 1) 0 ∷ []) (drop (at + 2) text)) text at (Ok (itself (at + 1) to))
+-- a byte after a backslash and the run after it
+pub taken_at : (form : grammar.Form) (text : List ℕ) (at to : ℕ) → at + 1 < length text → get_or text at 0 ≡ 92 → LeadsTo text (at + 2) to (after (grammar.is_itself form) (drop (at + 2) text)) → IsCharBoundary text to → StepAt (grammar.with_run form (get_or text (at + 1) 0 ∷ []) (drop (at + 2) text)) text at (Ok (itself (at + 1) to))
 taken_at form text at to within e leads cuts =
     let place : at + 1 + 1 ≡ at + 2 = omega arith in
     let bytes : between text (at + 1) to ≡ get_or text (at + 1) 0 ∷ between text (at + 2) to =
@@ -109,8 +109,8 @@ taken_at form text at to within e leads cuts =
     (run_found form text (get_or text (at + 1) 0 ∷ []) (at + 1) (at + 2) to leads bytes)
     (omega (arith, leads.forward)) (omega (arith, leads.forward)) leads.within (keeps_one text at (omega (arith, within)) (omega (arith, e))) (λ utf8 here. cuts)
 
--- a backslash that stays, with a byte and the run behind it
-pub kept_at : (text : List ℕ) (at to : ℕ) → at + 1 < length text → get_or text at 0 ≡ 92 → LeadsTo text (at + 2) to (behind (grammar.is_itself grammar.braced) (drop (at + 2) text)) → IsCharBoundary text to → StepAt (grammar.escaped grammar.braced (get_or text (at + 1) 0) (drop (at + 2) text)) text at (Ok (itself at to))
+-- a backslash that stays, with a byte and the run after it
+pub kept_at : (text : List ℕ) (at to : ℕ) → at + 1 < length text → get_or text at 0 ≡ 92 → LeadsTo text (at + 2) to (after (grammar.is_itself grammar.braced) (drop (at + 2) text)) → IsCharBoundary text to → StepAt (grammar.escaped grammar.braced (get_or text (at + 1) 0) (drop (at + 2) text)) text at (Ok (itself at to))
 kept_at text at to within e leads cuts =
     let place : at + 1 + 1 ≡ at + 2 = omega arith in
     let bytes : between text at to ≡ 92 ∷ (get_or text (at + 1) 0 ∷ between text (at + 2) to) =
@@ -160,7 +160,7 @@ piece_first : (form : grammar.Form) (b : ℕ) (bs : List ℕ) → grammar.ends_w
 unfolding grammar.piece_at
 piece_first form b bs p = rw p refl
 
-piece_second : (form : grammar.Form) (bs : List ℕ) → grammar.ends_word form 92 ≡ false → grammar.piece_at form (92 ∷ bs) ≡ grammar.behind_backslash form bs
+piece_second : (form : grammar.Form) (bs : List ℕ) → grammar.ends_word form 92 ≡ false → grammar.piece_at form (92 ∷ bs) ≡ grammar.after_backslash form bs
 unfolding grammar.piece_at
 piece_second form bs p = rw p refl
 
@@ -192,7 +192,7 @@ at_end_is form text at to within p e = subst (λ (i : ℕ). StepAt (grammar.piec
 pub at_within : (text : List ℕ) (at : ℕ) → at ≤ length text → (at ≡ length text → ⊥) → at < length text
 at_within text at inside other = omega (arith, inside, other)
 
-pub at_backslash : (form : Form) (text : List ℕ) (at : ℕ) (s : Step) → at < length text → get_or text at 0 ≡ 92 → StepAt (grammar.behind_backslash (form_of form) (drop (at + 1) text)) text at (Ok s) → StepAt (grammar.piece_at (form_of form) (drop at text)) text at (Ok s)
+pub at_backslash : (form : Form) (text : List ℕ) (at : ℕ) (s : Step) → at < length text → get_or text at 0 ≡ 92 → StepAt (grammar.after_backslash (form_of form) (drop (at + 1) text)) text at (Ok s) → StepAt (grammar.piece_at (form_of form) (drop at text)) text at (Ok s)
 at_backslash form text at s within e m =
     subst (λ (f : grammar.PieceFront). StepAt f text at (Ok s))
     (sym (ap (grammar.piece_at (form_of form)) (here text at 92 within e) ∙ piece_second (form_of form) (drop (at + 1) text) (no_backslash form))) m
@@ -202,7 +202,7 @@ at_substituted form text at r within p q s m =
     subst (λ (f : grammar.PieceFront). Meets r (StepAt f text at))
     (sym (ap (grammar.piece_at (form_of form)) (drop_more text at 0 within) ∙ piece_third (form_of form) (get_or text at 0) (drop (at + 1) text) p q s)) m
 
-pub at_run : (form : Form) (text : List ℕ) (at to : ℕ) → at < length text → grammar.ends_word (form_of form) (get_or text at 0) ≡ false → (get_or text at 0 == 92) ≡ false → grammar.substitutes (form_of form) (get_or text at 0) ≡ false → LeadsTo text (at + 1) to (behind (grammar.is_itself (form_of form)) (drop (at + 1) text)) → IsCharBoundary text to → StepAt (grammar.piece_at (form_of form) (drop at text)) text at (Ok (itself at to))
+pub at_run : (form : Form) (text : List ℕ) (at to : ℕ) → at < length text → grammar.ends_word (form_of form) (get_or text at 0) ≡ false → (get_or text at 0 == 92) ≡ false → grammar.substitutes (form_of form) (get_or text at 0) ≡ false → LeadsTo text (at + 1) to (after (grammar.is_itself (form_of form)) (drop (at + 1) text)) → IsCharBoundary text to → StepAt (grammar.piece_at (form_of form) (drop at text)) text at (Ok (itself at to))
 at_run form text at to within p q r leads cuts =
     subst (λ (f : grammar.PieceFront). StepAt f text at (Ok (itself at to)))
     (sym (ap (grammar.piece_at (form_of form)) (drop_more text at 0 within) ∙ piece_last (form_of form) (get_or text at 0) (drop (at + 1) text) p q r))

@@ -1,4 +1,4 @@
--- Pieces of a word, one behind the other.
+-- Pieces of a word, one after the other.
 use Rattle.std.proofs.Common.{◌≡◌, ◌<◌, ◌≤◌, ◌++◌, inl, inr, ◌⊎◌, ℕ, List, [], ◌∷◌, Result, Ok, Err, drop, length, refl, sym, ap, subst, ◌∙◌, arith, append_assoc}
 use Rattle.std.proofs.lemmas.List.{append-nil}
 use Rattle.std.specs.Str.{IsCharBoundary, IsUtf8}
@@ -7,10 +7,10 @@ use Rattle.sdc_base.specs.declared.memory.Stop.{Stop}
 use Rattle.sdc_base.specs.declared.memory.Stop.TheVariants.{NoMemory, Refused}
 use Rattle.source_types.specs.declared.commands.Word.{Word}
 use Rattle.source_types.specs.declared.kinds.TclKind.{TclKind}
-use Rattle.sdc_model.specs.Commands.{ArePieces}
-use Rattle.sdc_model.specs.Pieces as grammar
-use Rattle.sdc_model.specs.WordParts.{with_piece, with_pieces, word_of}
-use Rattle.sdc_model.specs.WordParts as parts
+use Rattle.tcl_model.specs.Commands.{ArePieces}
+use Rattle.tcl_model.specs.Pieces as grammar
+use Rattle.tcl_model.specs.WordParts.{with_piece, with_pieces, word_of}
+use Rattle.tcl_model.specs.WordParts as parts
 use Rattle.tcl_words.specs.declared.gathered.Gathered.{Gathered}
 use Rattle.tcl_words.specs.declared.pieces.Piece.{Piece}
 use Rattle.tcl_words.specs.declared.pieces.Step.{Step}
@@ -74,10 +74,10 @@ pieces_end form text from at to gathered word utf8 so_far step e = record {
   longer (inl none) = inl none
   longer (inr less) = inr (omega (arith, less, step.1))
 
-pub pieces_break : (form : Form) (text : List ℕ) (from at : ℕ) (gathered : Gathered) (kind : TclKind) → PiecesSoFar form text from at gathered → StepAt (grammar.piece_at (form_of form) (drop at text)) text at (Err kind) → PiecesFrom form text from (Err kind)
-pieces_break form text from at gathered kind so_far step =
+pub pieces_error : (form : Form) (text : List ℕ) (from at : ℕ) (gathered : Gathered) (kind : TclKind) → PiecesSoFar form text from at gathered → StepAt (grammar.piece_at (form_of form) (drop at text)) text at (Err kind) → PiecesFrom form text from (Err kind)
+pieces_error form text from at gathered kind so_far step =
     (so_far.pieces, subst (λ (ps : List grammar.Piece). ArePieces (form_of form) ps (drop from text) (Err kind)) (append-nil so_far.pieces) (so_far.row [] (Err kind) step))
 
 pub pieces_stop : (form : Form) (text : List ℕ) (from at : ℕ) (gathered : Gathered) (stop : Stop TclKind) → PiecesSoFar form text from at gathered → Meets {T = Step} (Err stop) (StepAt (grammar.piece_at (form_of form) (drop at text)) text at) → Meets {T = Spelled} (Err stop) (PiecesFrom form text from)
-pieces_stop form text from at gathered (Refused kind) so_far m = pieces_break form text from at gathered kind so_far m
+pieces_stop form text from at gathered (Refused kind) so_far m = pieces_error form text from at gathered kind so_far m
 pieces_stop form text from at gathered NoMemory so_far m = tt

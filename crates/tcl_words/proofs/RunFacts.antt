@@ -5,18 +5,18 @@ use Rattle.std.proofs.lemmas.Bool.Decides.{nat_tests}
 use Rattle.std.proofs.lemmas.List.{drop_more, length-drop}
 use Rattle.std.proofs.lemmas.Str.{IsCharBoundary-after_ascii, IsCharBoundary-before_ascii, IsCharBoundary-end}
 use Rattle.std.specs.Str.{IsCharBoundary}
-use Rattle.sdc_model.specs.Bytes.{behind, is_name_byte, is_space}
-use Rattle.sdc_model.specs.Pieces as grammar
+use Rattle.text_model.specs.Bytes.{after, is_name_byte, is_space}
+use Rattle.tcl_model.specs.Pieces as grammar
 use Rattle.tcl_words.specs.declared.runs.Run.{Run}
 use Rattle.tcl_words.specs.declared.runs.Run.TheVariants.{BeforeBrace, Name, Plain, Spaces}
 use Rattle.tcl_words.specs.declared.runs.Form.{Form}
 use Rattle.tcl_words.specs.declared.runs.Form.TheVariants.{Bare, Braced, Quoted}
-use Rattle.tcl_words.specs.Forms.{CutsBehind, form_of, test_of}
+use Rattle.tcl_words.specs.Forms.{CutsAfter, form_of, test_of}
 use Rattle.tcl_words.specs.Spans.{Keeps, LeadsTo}
 
 -- the bytes between two places pass a test
 pub record RunTo (test : ℕ → Bool) (text : List ℕ) (from at : ℕ) : Type 0 where
-  pub same : behind test (drop from text) ≡ behind test (drop at text)
+  pub same : after test (drop from text) ≡ after test (drop at text)
   pub forward : from ≤ at
   pub within : at ≤ length text
   pub last : from < at → test (get_or text (at - 1) 0) ≡ true
@@ -31,33 +31,33 @@ drop_all text at e = nothing (drop at text) (omega (arith, length-drop at text))
 pub run_none : (test : ℕ → Bool) (text : List ℕ) (from : ℕ) → from ≤ length text → RunTo test text from from
 run_none test text from within = record { same = refl; forward = omega arith; within = within; last = λ h. absurd (omega arith) }
 
-behind_pass : (test : ℕ → Bool) (b : ℕ) (bs : List ℕ) → test b ≡ true → behind test (b ∷ bs) ≡ behind test bs
-unfolding behind
-behind_pass test b bs p = rw p refl
+after_pass : (test : ℕ → Bool) (b : ℕ) (bs : List ℕ) → test b ≡ true → after test (b ∷ bs) ≡ after test bs
+unfolding after
+after_pass test b bs p = rw p refl
 
-behind_fail : (test : ℕ → Bool) (b : ℕ) (bs : List ℕ) → test b ≡ false → behind test (b ∷ bs) ≡ b ∷ bs
-unfolding behind
-behind_fail test b bs p = rw p refl
+after_fail : (test : ℕ → Bool) (b : ℕ) (bs : List ℕ) → test b ≡ false → after test (b ∷ bs) ≡ b ∷ bs
+unfolding after
+after_fail test b bs p = rw p refl
 
-behind_nil : (test : ℕ → Bool) → behind test [] ≡ []
-unfolding behind
-behind_nil test = refl
+after_nil : (test : ℕ → Bool) → after test [] ≡ []
+unfolding after
+after_nil test = refl
 
 pub run_more : (test : ℕ → Bool) (text : List ℕ) (from at : ℕ) → RunTo test text from at → at < length text → test (get_or text at 0) ≡ true → RunTo test text from (at + 1)
 run_more test text from at run within p = record {
-  same = run.same ∙ (ap (behind test) (drop_more text at 0 within) ∙ behind_pass test (get_or text at 0) (drop (at + 1) text) p);
+  same = run.same ∙ (ap (after test) (drop_more text at 0 within) ∙ after_pass test (get_or text at 0) (drop (at + 1) text) p);
   forward = omega (arith, run.forward);
   within = omega (arith, within);
   last = λ h. let e : at + 1 - 1 ≡ at = omega arith in rw e p;
 }
 
 -- a run ends at the end of the text or before a byte that fails
-pub run_stops : (test : ℕ → Bool) (text : List ℕ) (from at : ℕ) → RunTo test text from at → (at < length text → test (get_or text at 0) ≡ false) → behind test (drop from text) ≡ drop at text
+pub run_stops : (test : ℕ → Bool) (text : List ℕ) (from at : ℕ) → RunTo test text from at → (at < length text → test (get_or text at 0) ≡ false) → after test (drop from text) ≡ drop at text
 run_stops test text from at run fails =
     run.same ∙ ends (drop at text) (λ b bs e. first b bs e) where
-      ends : (rest : List ℕ) → ((b : ℕ) (bs : List ℕ) → rest ≡ b ∷ bs → test b ≡ false) → behind test rest ≡ rest
-      ends [] h = behind_nil test
-      ends (b ∷ bs) h = behind_fail test b bs (h b bs refl)
+      ends : (rest : List ℕ) → ((b : ℕ) (bs : List ℕ) → rest ≡ b ∷ bs → test b ≡ false) → after test rest ≡ rest
+      ends [] h = after_nil test
+      ends (b ∷ bs) h = after_fail test b bs (h b bs refl)
 
       first : (b : ℕ) (bs : List ℕ) → drop at text ≡ b ∷ bs → test b ≡ false
       first b bs e =
@@ -68,7 +68,7 @@ run_stops test text from at run fails =
 
 -- ---- characters
 
--- right behind an ASCII byte
+-- right after an ASCII byte
 pub keeps_one : (text : List ℕ) (at : ℕ) → at < length text → get_or text at 0 < 128 → Keeps text at (at + 1)
 keeps_one text at within small = λ utf8 cuts. IsCharBoundary-after_ascii text at utf8 within small
 
@@ -107,7 +107,7 @@ ascii_outside test text at small inside fails =
           IsCharBoundary-before_ascii text at within (small _ (fails within))
     ]
 
-pub run_cuts : (run : Run) (text : List ℕ) (from at : ℕ) → RunTo (test_of run) text from at → (at < length text → test_of run (get_or text at 0) ≡ false) → CutsBehind run text at
+pub run_cuts : (run : Run) (text : List ℕ) (from at : ℕ) → RunTo (test_of run) text from at → (at < length text → test_of run (get_or text at 0) ≡ false) → CutsAfter run text at
 run_cuts Spaces text from at r fails = tt
 run_cuts Name text from at r fails = tt
 run_cuts BeforeBrace text from at r fails = ascii_outside (λ b. not (b == 125)) text at brace_ascii r.within fails
@@ -119,7 +119,7 @@ run_keeps Name text from at r fails = ascii_inside is_name_byte text from at nam
 run_keeps BeforeBrace text from at r fails = λ utf8 cuts. ascii_outside (λ b. not (b == 125)) text at brace_ascii r.within fails
 run_keeps (Plain form) text from at r fails = λ utf8 cuts. ascii_outside (grammar.is_itself (form_of form)) text at (plain_ascii form) r.within fails
 
-pub run_leads : (run : Run) (text : List ℕ) (from at : ℕ) → RunTo (test_of run) text from at → (at < length text → test_of run (get_or text at 0) ≡ false) → LeadsTo text from at (behind (test_of run) (drop from text))
+pub run_leads : (run : Run) (text : List ℕ) (from at : ℕ) → RunTo (test_of run) text from at → (at < length text → test_of run (get_or text at 0) ≡ false) → LeadsTo text from at (after (test_of run) (drop from text))
 run_leads run text from at r fails = record {
   is = run_stops (test_of run) text from at r fails;
   forward = r.forward;

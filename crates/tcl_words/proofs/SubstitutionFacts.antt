@@ -8,10 +8,10 @@ use Rattle.std.specs.Str.{IsCharBoundary}
 use Rattle.source_types.specs.declared.commands.Part.TheVariants as part
 use Rattle.source_types.specs.declared.kinds.TclKind.{TclKind}
 use Rattle.source_types.specs.declared.kinds.TclKind.TheVariants.{BadWord, Unclosed}
-use Rattle.sdc_model.specs.Bytes.{before, begins_with, behind, front, is_name_byte}
-use Rattle.sdc_model.specs.Enclosed.{behind_bracket}
-use Rattle.sdc_model.specs.Pieces as grammar
-use Rattle.sdc_model.specs.Row.{found, stops}
+use Rattle.text_model.specs.Bytes.{before, begins_with, after, front, is_name_byte}
+use Rattle.text_model.specs.Enclosed.{after_bracket}
+use Rattle.tcl_model.specs.Pieces as grammar
+use Rattle.text_model.specs.Row.{found, stops}
 use Rattle.tcl_words.specs.declared.pieces.Kind.TheVariants.{Script, Variable}
 use Rattle.tcl_words.specs.declared.pieces.Step.{Step}
 use Rattle.tcl_words.specs.declared.pieces.Step.TheVariants.{Found}
@@ -24,42 +24,42 @@ use Rattle.tcl_words.proofs.PieceFacts.{between_more, between_none, byte_at, fro
 -- ---- a variable
 
 abbrev pub dollar_front : List ℕ → ℕ → grammar.PieceFront
-dollar_front text at = grammar.behind_dollar (front is_name_byte (drop (at + 1) text)) (behind is_name_byte (drop (at + 1) text))
+dollar_front text at = grammar.after_dollar (front is_name_byte (drop (at + 1) text)) (after is_name_byte (drop (at + 1) text))
 
-dollar_is : (text : List ℕ) (at to : ℕ) → LeadsTo text (at + 1) to (behind is_name_byte (drop (at + 1) text)) → dollar_front text at ≡ grammar.behind_dollar (between text (at + 1) to) (drop to text)
+dollar_is : (text : List ℕ) (at to : ℕ) → LeadsTo text (at + 1) to (after is_name_byte (drop (at + 1) text)) → dollar_front text at ≡ grammar.after_dollar (between text (at + 1) to) (drop to text)
 dollar_is text at to leads =
-    ap (λ (t : List ℕ). grammar.behind_dollar t (behind is_name_byte (drop (at + 1) text))) (front_between is_name_byte text (at + 1) to leads)
-    ∙ ap (grammar.behind_dollar (between text (at + 1) to)) leads.is
+    ap (λ (t : List ℕ). grammar.after_dollar t (after is_name_byte (drop (at + 1) text))) (front_between is_name_byte text (at + 1) to leads)
+    ∙ ap (grammar.after_dollar (between text (at + 1) to)) leads.is
 
-pub dollar_plain : (text : List ℕ) (at to : ℕ) (r : Result Step TclKind) → LeadsTo text (at + 1) to (behind is_name_byte (drop (at + 1) text)) → to ≡ at + 1 → StepAt (grammar.plain_dollar (drop (at + 1) text)) text at r → StepAt (dollar_front text at) text at r
+pub dollar_plain : (text : List ℕ) (at to : ℕ) (r : Result Step TclKind) → LeadsTo text (at + 1) to (after is_name_byte (drop (at + 1) text)) → to ≡ at + 1 → StepAt (grammar.plain_dollar (drop (at + 1) text)) text at r → StepAt (dollar_front text at) text at r
 dollar_plain text at to r leads e m =
     subst (λ (f : grammar.PieceFront). StepAt f text at r)
-    (sym (dollar_is text at to leads ∙ (ap (λ (i : ℕ). grammar.behind_dollar (between text (at + 1) i) (drop i text)) e ∙ ap (λ (t : List ℕ). grammar.behind_dollar t (drop (at + 1) text)) (between_none text (at + 1))))) m
+    (sym (dollar_is text at to leads ∙ (ap (λ (i : ℕ). grammar.after_dollar (between text (at + 1) i) (drop i text)) e ∙ ap (λ (t : List ℕ). grammar.after_dollar t (drop (at + 1) text)) (between_none text (at + 1))))) m
 
-named : (b : ℕ) (bs rest : List ℕ) → begins_with 40 rest ≡ false → grammar.behind_dollar (b ∷ bs) rest ≡ found (grammar.other (part.Variable (b ∷ bs))) rest
+named : (b : ℕ) (bs rest : List ℕ) → begins_with 40 rest ≡ false → grammar.after_dollar (b ∷ bs) rest ≡ found (grammar.other (part.Variable (b ∷ bs))) rest
 named b bs rest p = rw p refl
 
-element : (b : ℕ) (bs rest : List ℕ) → begins_with 40 rest ≡ true → grammar.behind_dollar (b ∷ bs) rest ≡ stops (Err BadWord)
+element : (b : ℕ) (bs rest : List ℕ) → begins_with 40 rest ≡ true → grammar.after_dollar (b ∷ bs) rest ≡ stops (Err BadWord)
 element b bs rest p = rw p refl
 
 later : (to at : ℕ) → at + 1 ≤ to → (to ≡ at + 1 → ⊥) → at + 1 < to
 later to at forward other = omega (arith, forward, other)
 
-pub dollar_element : (text : List ℕ) (at to : ℕ) → LeadsTo text (at + 1) to (behind is_name_byte (drop (at + 1) text)) → (to ≡ at + 1 → ⊥) → begins_with 40 (drop to text) ≡ true → StepAt (dollar_front text at) text at (Err BadWord)
+pub dollar_element : (text : List ℕ) (at to : ℕ) → LeadsTo text (at + 1) to (after is_name_byte (drop (at + 1) text)) → (to ≡ at + 1 → ⊥) → begins_with 40 (drop to text) ≡ true → StepAt (dollar_front text at) text at (Err BadWord)
 dollar_element text at to leads other p =
     let name = between_more text (at + 1) to (later to at leads.forward other) leads.within in
     dollar_is text at to leads
-    ∙ (ap (λ (t : List ℕ). grammar.behind_dollar t (drop to text)) name ∙ element (get_or text (at + 1) 0) (between text (at + 1 + 1) to) (drop to text) p)
+    ∙ (ap (λ (t : List ℕ). grammar.after_dollar t (drop to text)) name ∙ element (get_or text (at + 1) 0) (between text (at + 1 + 1) to) (drop to text) p)
 
-pub dollar_named : (text : List ℕ) (at to : ℕ) → at < length text → get_or text at 0 ≡ 36 → LeadsTo text (at + 1) to (behind is_name_byte (drop (at + 1) text)) → (to ≡ at + 1 → ⊥) → begins_with 40 (drop to text) ≡ false → StepAt (dollar_front text at) text at (Ok (Found (record { kind = Variable; from = at + 1; to = to; next = to })))
+pub dollar_named : (text : List ℕ) (at to : ℕ) → at < length text → get_or text at 0 ≡ 36 → LeadsTo text (at + 1) to (after is_name_byte (drop (at + 1) text)) → (to ≡ at + 1 → ⊥) → begins_with 40 (drop to text) ≡ false → StepAt (dollar_front text at) text at (Ok (Found (record { kind = Variable; from = at + 1; to = to; next = to })))
 dollar_named text at to within e leads other p =
     let name = between_more text (at + 1) to (later to at leads.forward other) leads.within in
-    let behind_first = keeps_one text at within (omega (arith, e)) in
-    let keeps : Keeps text at to = λ utf8 cuts. leads.keeps utf8 (behind_first utf8 cuts) in (
+    let after_first = keeps_one text at within (omega (arith, e)) in
+    let keeps : Keeps text at to = λ utf8 cuts. leads.keeps utf8 (after_first utf8 cuts) in (
       dollar_is text at to leads
-          ∙ (ap (λ (t : List ℕ). grammar.behind_dollar t (drop to text)) name
+          ∙ (ap (λ (t : List ℕ). grammar.after_dollar t (drop to text)) name
           ∙ (named (get_or text (at + 1) 0) (between text (at + 1 + 1) to) (drop to text) p ∙ ap (λ (t : List ℕ). found (grammar.other (part.Variable t)) (drop to text)) (sym name))),
-      record { forward = omega (arith, leads.forward); within = leads.within; order = leads.forward; inside = leads.within; keeps_from = behind_first; keeps_to = keeps; keeps_next = keeps },
+      record { forward = omega (arith, leads.forward); within = leads.within; order = leads.forward; inside = leads.within; keeps_from = after_first; keeps_to = keeps; keeps_next = keeps },
     )
 
 -- ---- a plain dollar, and a name in braces
@@ -89,23 +89,23 @@ brace_at text at p = begins (drop (at + 1) text) refl p where
 abbrev pub in_name : ℕ → Bool
 in_name b = not (b == 125)
 
-braced_is : (text : List ℕ) (at to : ℕ) → Brace text at → LeadsTo text (at + 2) to (behind in_name (drop (at + 2) text)) → grammar.plain_dollar (drop (at + 1) text) ≡ grammar.braced_variable (between text (at + 2) to) (drop to text)
+braced_is : (text : List ℕ) (at to : ℕ) → Brace text at → LeadsTo text (at + 2) to (after in_name (drop (at + 2) text)) → grammar.plain_dollar (drop (at + 1) text) ≡ grammar.braced_variable (between text (at + 2) to) (drop to text)
 braced_is text at to b leads =
     let place : at + 1 + 1 ≡ at + 2 = omega arith in
     let two : drop (at + 1) text ≡ 123 ∷ drop (at + 2) text = here text (at + 1) 123 b.within b.opens ∙ ap (λ (i : ℕ). 123 ∷ drop i text) place in
     ap grammar.plain_dollar two
-    ∙ (ap (λ (t : List ℕ). grammar.braced_variable t (behind in_name (drop (at + 2) text))) (front_between in_name text (at + 2) to leads)
+    ∙ (ap (λ (t : List ℕ). grammar.braced_variable t (after in_name (drop (at + 2) text))) (front_between in_name text (at + 2) to leads)
     ∙ ap (grammar.braced_variable (between text (at + 2) to)) leads.is)
 
-pub name_unclosed : (text : List ℕ) (at to : ℕ) → begins_with 123 (drop (at + 1) text) ≡ true → LeadsTo text (at + 2) to (behind in_name (drop (at + 2) text)) → to ≡ length text → StepAt (grammar.plain_dollar (drop (at + 1) text)) text at (Err Unclosed)
+pub name_unclosed : (text : List ℕ) (at to : ℕ) → begins_with 123 (drop (at + 1) text) ≡ true → LeadsTo text (at + 2) to (after in_name (drop (at + 2) text)) → to ≡ length text → StepAt (grammar.plain_dollar (drop (at + 1) text)) text at (Err Unclosed)
 name_unclosed text at to p leads e =
     braced_is text at to (brace_at text at p) leads ∙ ap (grammar.braced_variable (between text (at + 2) to)) (drop_all text to e)
 
-behind_head : (test : ℕ → Bool) (xs : List ℕ) (b : ℕ) (bs : List ℕ) → behind test xs ≡ b ∷ bs → test b ≡ false
-unfolding behind
-behind_head test [] b bs e = absurd (omega (arith, ap length e))
-behind_head test (x ∷ xs) b bs e = elim (cases_Bool (test x)) [
-  | inl p ↦ let f : behind test xs ≡ b ∷ bs = rw p at e in behind_head test xs b bs f
+after_head : (test : ℕ → Bool) (xs : List ℕ) (b : ℕ) (bs : List ℕ) → after test xs ≡ b ∷ bs → test b ≡ false
+unfolding after
+after_head test [] b bs e = absurd (omega (arith, ap length e))
+after_head test (x ∷ xs) b bs e = elim (cases_Bool (test x)) [
+  | inl p ↦ let f : after test xs ≡ b ∷ bs = rw p at e in after_head test xs b bs f
   | inr p ↦
       let f : x ∷ xs ≡ b ∷ bs = rw p at e in
       let same : x ≡ b = cc in
@@ -115,12 +115,12 @@ behind_head test (x ∷ xs) b bs e = elim (cases_Bool (test x)) [
 closing_small : (b : ℕ) → in_name b ≡ false → b < 128
 closing_small b p = grind (arith, nat_tests)
 
-pub name_closed : (text : List ℕ) (at to : ℕ) → begins_with 123 (drop (at + 1) text) ≡ true → LeadsTo text (at + 2) to (behind in_name (drop (at + 2) text)) → IsCharBoundary text to → (to ≡ length text → ⊥) → StepAt (grammar.plain_dollar (drop (at + 1) text)) text at (Ok (Found (record { kind = Variable; from = at + 2; to = to; next = to + 1 })))
+pub name_closed : (text : List ℕ) (at to : ℕ) → begins_with 123 (drop (at + 1) text) ≡ true → LeadsTo text (at + 2) to (after in_name (drop (at + 2) text)) → IsCharBoundary text to → (to ≡ length text → ⊥) → StepAt (grammar.plain_dollar (drop (at + 1) text)) text at (Ok (Found (record { kind = Variable; from = at + 2; to = to; next = to + 1 })))
 name_closed text at to p leads cuts other =
     let b = brace_at text at p in
     let place : at + 1 + 1 ≡ at + 2 = omega arith in
     let within : to < length text = omega (arith, leads.within, other) in
-    let closes : in_name (get_or text to 0) ≡ false = behind_head in_name (drop (at + 2) text) (get_or text to 0) (drop (to + 1) text) (leads.is ∙ drop_more text to 0 within) in (
+    let closes : in_name (get_or text to 0) ≡ false = after_head in_name (drop (at + 2) text) (get_or text to 0) (drop (to + 1) text) (leads.is ∙ drop_more text to 0 within) in (
       braced_is text at to b leads ∙ ap (grammar.braced_variable (between text (at + 2) to)) (drop_more text to 0 within),
       record {
         forward = omega (arith, leads.forward);
@@ -135,17 +135,17 @@ name_closed text at to p leads cuts other =
 
 -- ---- a script
 
-pub script_unclosed : (text : List ℕ) (at : ℕ) → behind_bracket (drop (at + 1) text) ≡ None → StepAt (grammar.behind_opening (drop (at + 1) text) (behind_bracket (drop (at + 1) text))) text at (Err Unclosed)
-script_unclosed text at e = ap (grammar.behind_opening (drop (at + 1) text)) e
+pub script_unclosed : (text : List ℕ) (at : ℕ) → after_bracket (drop (at + 1) text) ≡ None → StepAt (grammar.after_opening (drop (at + 1) text) (after_bracket (drop (at + 1) text))) text at (Err Unclosed)
+script_unclosed text at e = ap (grammar.after_opening (drop (at + 1) text)) e
 
 inside_is : (text : List ℕ) (from next : ℕ) → from < next → next ≤ length text → before (drop from text) (93 ∷ drop next text) ≡ between text from (next - 1)
 inside_is text from next less within =
     let n : length (drop from text) - length (93 ∷ drop next text) ≡ next - 1 - from = omega (arith, less, within, length-drop from text, length-drop next text) in
     ap (λ (k : ℕ). take k (drop from text)) n
 
-pub script_closed : (text : List ℕ) (at next : ℕ) → at < length text → get_or text at 0 < 128 → ClosesAt text (at + 1) next (behind_bracket (drop (at + 1) text)) → StepAt (grammar.behind_opening (drop (at + 1) text) (behind_bracket (drop (at + 1) text))) text at (Ok (Found (record { kind = Script; from = at + 1; to = next - 1; next = next })))
+pub script_closed : (text : List ℕ) (at next : ℕ) → at < length text → get_or text at 0 < 128 → ClosesAt text (at + 1) next (after_bracket (drop (at + 1) text)) → StepAt (grammar.after_opening (drop (at + 1) text) (after_bracket (drop (at + 1) text))) text at (Ok (Found (record { kind = Script; from = at + 1; to = next - 1; next = next })))
 script_closed text at next within small c = (
-  ap (grammar.behind_opening (drop (at + 1) text)) c.is
+  ap (grammar.after_opening (drop (at + 1) text)) c.is
       ∙ ap (λ (script : List ℕ). found (grammar.other (part.Script script)) (drop next text)) (inside_is text (at + 1) next c.forward c.within),
   record {
     forward = omega (arith, c.forward);
@@ -154,6 +154,6 @@ script_closed text at next within small c = (
     inside = omega (arith, c.within);
     keeps_from = keeps_one text at within small;
     keeps_to = λ utf8 here. c.before utf8;
-    keeps_next = λ utf8 here. c.behind utf8;
+    keeps_next = λ utf8 here. c.after utf8;
   },
 )

@@ -6,8 +6,8 @@ use Rattle.std.proofs.lemmas.List.{drop_more, append-nil}
 use Rattle.std.proofs.lemmas.Str.{IsCharBoundary-after_ascii, IsCharBoundary-before_ascii, IsCharBoundary-end}
 use Rattle.std.specs.List.{list_any}
 use Rattle.std.specs.Str.{IsCharBoundary, IsUtf8}
-use Rattle.sdc_model.specs.Bytes.{behind, front}
-use Rattle.sdc_model.specs.ListText.{in_braces, is_taken, item_text, needs_backslashes, needs_braces, plain_item, taken_as, with_backslashes}
+use Rattle.text_model.specs.Bytes.{after, front}
+use Rattle.tcl_model.specs.ListText.{in_braces, is_taken, item_text, needs_backslashes, needs_braces, plain_item, taken_as, with_backslashes}
 use Rattle.tcl_words.specs.Steps.{between}
 use Rattle.tcl_words.specs.Taken.{IsPushed, UntakenTo, is_bare, untaken}
 use Rattle.tcl_words.proofs.PieceFacts.{front_between}
@@ -48,8 +48,8 @@ untaken_to item from at run fails = taken_ends item from at run (λ less. is_tak
 
 -- ---- an item with its backslashes
 
-with_run : (item : List ℕ) → with_backslashes item ≡ front untaken item ++ with_backslashes (behind untaken item)
-unfolding with_backslashes front behind
+with_run : (item : List ℕ) → with_backslashes item ≡ front untaken item ++ with_backslashes (after untaken item)
+unfolding with_backslashes front after
 with_run [] = refl
 with_run (b ∷ bs) = elim (cases_Bool (is_taken b)) [
   | inl p ↦ rw p (sym (with_taken b bs p))
@@ -59,11 +59,11 @@ with_run (b ∷ bs) = elim (cases_Bool (is_taken b)) [
 run_is : (item : List ℕ) (from end : ℕ) → UntakenTo item from end → with_backslashes (drop from item) ≡ between item from end ++ with_backslashes (drop end item)
 run_is item from end run =
     with_run (drop from item)
-    ∙ (ap (λ (t : List ℕ). t ++ with_backslashes (behind untaken (drop from item))) (front_between untaken item from end run.leads)
+    ∙ (ap (λ (t : List ℕ). t ++ with_backslashes (after untaken (drop from item))) (front_between untaken item from end run.leads)
     ∙ ap (λ (t : List ℕ). between item from end ++ with_backslashes t) run.leads.is)
 
-pub pushed_end : (before item after : List ℕ) (from end : ℕ) → from < length item → UntakenTo item from end → end ≡ length item → after ≡ before ++ between item from end → IsPushed before item from after end
-pushed_end before item after from end within run e written = record {
+pub pushed_end : (before item later : List ℕ) (from end : ℕ) → from < length item → UntakenTo item from end → end ≡ length item → later ≡ before ++ between item from end → IsPushed before item from later end
+pushed_end before item later from end within run e written = record {
   same =
       ap (λ (t : List ℕ). t ++ with_backslashes (drop end item)) written
       ∙ (append_assoc before (between item from end) (with_backslashes (drop end item)) ∙ ap (λ (t : List ℕ). before ++ t) (sym (run_is item from end run)));
@@ -75,8 +75,8 @@ pushed_end before item after from end within run e written = record {
 taken_here : (item : List ℕ) (end : ℕ) → end < length item → is_taken (get_or item end 0) ≡ true → with_backslashes (drop end item) ≡ 92 ∷ (taken_as (get_or item end 0) ∷ with_backslashes (drop (end + 1) item))
 taken_here item end within p = ap with_backslashes (drop_more item end 0 within) ∙ with_taken (get_or item end 0) (drop (end + 1) item) p
 
-pushed_byte : (before item middle after : List ℕ) (from end : ℕ) → IsUtf8 item → UntakenTo item from end → end < length item → middle ≡ before ++ between item from end → after ≡ middle ++ 92 ∷ (taken_as (get_or item end 0) ∷ []) → IsPushed before item from after (end + 1)
-pushed_byte before item middle after from end utf8 run within first second =
+pushed_byte : (before item middle later : List ℕ) (from end : ℕ) → IsUtf8 item → UntakenTo item from end → end < length item → middle ≡ before ++ between item from end → later ≡ middle ++ 92 ∷ (taken_as (get_or item end 0) ∷ []) → IsPushed before item from later (end + 1)
+pushed_byte before item middle later from end utf8 run within first second =
     record {
       same =
           ap (λ (t : List ℕ). t ++ with_backslashes (drop (end + 1) item)) second
@@ -89,9 +89,9 @@ pushed_byte before item middle after from end utf8 run within first second =
       boundary = IsCharBoundary-after_ascii item end utf8 within (taken_small (get_or item end 0) (run.ends within));
     }
 
-pub pushed_taken : (before item middle after pair : List ℕ) (from end : ℕ) → IsUtf8 item → UntakenTo item from end → (end ≡ length item → ⊥) → middle ≡ before ++ between item from end → pair ≡ 92 ∷ (taken_as (get_or item end 0) ∷ []) → after ≡ middle ++ pair → IsPushed before item from after (end + 1)
-pushed_taken before item middle after pair from end utf8 run other first e added =
-    pushed_byte before item middle after from end utf8 run (omega (arith, run.leads.within, other)) first (added ∙ ap (λ (t : List ℕ). middle ++ t) e)
+pub pushed_taken : (before item middle later pair : List ℕ) (from end : ℕ) → IsUtf8 item → UntakenTo item from end → (end ≡ length item → ⊥) → middle ≡ before ++ between item from end → pair ≡ 92 ∷ (taken_as (get_or item end 0) ∷ []) → later ≡ middle ++ pair → IsPushed before item from later (end + 1)
+pushed_taken before item middle later pair from end utf8 run other first e added =
+    pushed_byte before item middle later from end utf8 run (omega (arith, run.leads.within, other)) first (added ∙ ap (λ (t : List ℕ). middle ++ t) e)
 
 -- an item is written up to a place
 pub record WrittenTo (before item : List ℕ) (at : ℕ) (made : List ℕ) : Type 0 where
@@ -102,8 +102,8 @@ pub record WrittenTo (before item : List ℕ) (at : ℕ) (made : List ℕ) : Typ
 pub written_none : (before item : List ℕ) → IsCharBoundary item 0 → WrittenTo before item 0 before
 written_none before item boundary = record { same = refl; within = omega arith; boundary = boundary }
 
-pub written_more : (before item made after : List ℕ) (at next : ℕ) → WrittenTo before item at made → IsPushed made item at after next → WrittenTo before item next after
-written_more before item made after at next so_far p = record { same = p.same ∙ so_far.same; within = p.within; boundary = p.boundary }
+pub written_more : (before item made later : List ℕ) (at next : ℕ) → WrittenTo before item at made → IsPushed made item at later next → WrittenTo before item next later
+written_more before item made later at next so_far p = record { same = p.same ∙ so_far.same; within = p.within; boundary = p.boundary }
 
 pub written_all : (before item made : List ℕ) (at : ℕ) → WrittenTo before item at made → length item ≤ at → made ≡ before ++ with_backslashes item
 written_all before item made at so_far ends =

@@ -10,12 +10,12 @@ use Rattle.source_types.specs.declared.commands.Word.{Word}
 use Rattle.source_types.specs.declared.kinds.TclKind.{TclKind}
 use Rattle.source_types.specs.declared.kinds.TclKind.TheVariants.{BadWord, ExtraAfterBrace, Unclosed}
 use Rattle.source_types.specs.declared.commands.Part.TheVariants as part
-use Rattle.sdc_model.specs.Bytes.{before, begins_with, behind, front, is_end, is_name_byte, is_space}
-use Rattle.sdc_model.specs.Commands.{ArePieces, IsBraced, IsWordOf, WordFront, bare_opens, brace_opens, ended_closed, may_follow, opening, quote_opens}
-use Rattle.sdc_model.specs.Continued.{continues}
-use Rattle.sdc_model.specs.Enclosed.{behind_brace, behind_bracket}
-use Rattle.sdc_model.specs.Pieces as grammar
-use Rattle.sdc_model.specs.Row.{found, stops}
+use Rattle.text_model.specs.Bytes.{before, begins_with, after, front, is_end, is_name_byte, is_space}
+use Rattle.tcl_model.specs.Commands.{ArePieces, IsBraced, IsWordOf, WordFront, bare_opens, brace_opens, ended_closed, may_follow, opening, quote_opens}
+use Rattle.text_model.specs.Continued.{continues}
+use Rattle.text_model.specs.Enclosed.{after_brace, after_bracket}
+use Rattle.tcl_model.specs.Pieces as grammar
+use Rattle.text_model.specs.Row.{found, stops}
 use Rattle.tcl_words.specs.declared.runs.Form.TheVariants.{Bare, Braced, Quoted}
 use Rattle.tcl_words.specs.declared.spelled.Spelled.{Spelled}
 use Rattle.tcl_words.specs.Nests.{ClosesAt}
@@ -60,21 +60,21 @@ quoted_extra text from spelled within e p follows =
       extra : (rest : List ℕ) → may_follow rest ≡ false → stops (Err ExtraAfterBrace) ≡ ended_closed p.pieces (Ok rest)
       extra rest h = rw h refl
 
-pub quoted_break : (text : List ℕ) (from : ℕ) (kind : TclKind) → from < length text → get_or text from 0 ≡ 34 → PiecesFrom Quoted text (from + 1) (Err kind) → WordFrom text from (Err kind)
-quoted_break text from kind within e p =
+pub quoted_error : (text : List ℕ) (from : ℕ) (kind : TclKind) → from < length text → get_or text from 0 ≡ 34 → PiecesFrom Quoted text (from + 1) (Err kind) → WordFrom text from (Err kind)
+quoted_error text from kind within e p =
     subst (λ o. IsWordOf o (drop from text) (stops (Err kind))) (sym (quote_here text from within e)) (p.0, Err kind, p.1, refl)
 
 -- a braced word
-pub braced_unclosed : (text : List ℕ) (from : ℕ) → from < length text → get_or text from 0 ≡ 123 → behind_brace (drop (from + 1) text) ≡ None → WordFrom text from (Err Unclosed)
+pub braced_unclosed : (text : List ℕ) (from : ℕ) → from < length text → get_or text from 0 ≡ 123 → after_brace (drop (from + 1) text) ≡ None → WordFrom text from (Err Unclosed)
 braced_unclosed text from within e none =
     subst (λ o. IsWordOf o (drop from text) (stops (Err Unclosed))) (sym (brace_here text from within e))
     (subst (λ o. IsBraced (drop (from + 1) text) o (stops (Err Unclosed))) (sym none) refl)
 
-braced_backslash : (rest after : List ℕ) → grammar.behind_backslash grammar.braced rest ≡ stops (Ok after) → ⊥
-braced_backslash [] after e = cc
-braced_backslash (b ∷ bs) after e = elim (cases_Bool (continues (b ∷ bs))) [
-  | inl p ↦ let f : grammar.continued grammar.braced (b ∷ bs) ≡ stops (Ok after) = rw p at e in cc
-  | inr p ↦ let f : grammar.escaped grammar.braced b bs ≡ stops (Ok after) = rw p at e in cc
+braced_backslash : (rest later : List ℕ) → grammar.after_backslash grammar.braced rest ≡ stops (Ok later) → ⊥
+braced_backslash [] later e = cc
+braced_backslash (b ∷ bs) later e = elim (cases_Bool (continues (b ∷ bs))) [
+  | inl p ↦ let f : grammar.continued grammar.braced (b ∷ bs) ≡ stops (Ok later) = rw p at e in cc
+  | inr p ↦ let f : grammar.escaped grammar.braced b bs ≡ stops (Ok later) = rw p at e in cc
 ]
 
 -- a text of braces is read to its end
@@ -84,7 +84,7 @@ inner_stop [] rest e =
     let f : ◌≡◌ {A = Result (List ℕ) TclKind} (Ok []) (Ok rest) = cc in
     let g : ◌≡◌ {A = List ℕ} [] rest = cc in sym g
 inner_stop (b ∷ bs) rest e = elim (cases_Bool (b == 92)) [
-  | inl p ↦ let f : grammar.behind_backslash grammar.braced bs ≡ stops (Ok rest) = rw p at e in absurd (braced_backslash bs rest f)
+  | inl p ↦ let f : grammar.after_backslash grammar.braced bs ≡ stops (Ok rest) = rw p at e in absurd (braced_backslash bs rest f)
   | inr p ↦ let f : grammar.with_run grammar.braced (b ∷ []) bs ≡ stops (Ok rest) = rw p at e in absurd (no_stop f)
 ] where
   no_stop : grammar.with_run grammar.braced (b ∷ []) bs ≡ stops (Ok rest) → ⊥
@@ -94,7 +94,7 @@ inner_end : (pieces : List grammar.Piece) (inner rest : List ℕ) → ArePieces 
 inner_end [] inner rest r = inner_stop inner rest r
 inner_end (p ∷ pieces) inner rest r = inner_end pieces r.0 rest r.2
 
-braced_backslash_breaks : (rest : List ℕ) (kind : TclKind) → grammar.behind_backslash grammar.braced rest ≡ stops (Err kind) → ⊥
+braced_backslash_breaks : (rest : List ℕ) (kind : TclKind) → grammar.after_backslash grammar.braced rest ≡ stops (Err kind) → ⊥
 braced_backslash_breaks [] kind e = cc
 braced_backslash_breaks (b ∷ bs) kind e = elim (cases_Bool (continues (b ∷ bs))) [
   | inl p ↦ let f : grammar.continued grammar.braced (b ∷ bs) ≡ stops (Err kind) = rw p at e in cc
@@ -105,11 +105,11 @@ inner_unbroken : (inner : List ℕ) (kind : TclKind) → grammar.piece_at gramma
 unfolding grammar.piece_at
 inner_unbroken [] kind e = cc
 inner_unbroken (b ∷ bs) kind e = elim (cases_Bool (b == 92)) [
-  | inl p ↦ let f : grammar.behind_backslash grammar.braced bs ≡ stops (Err kind) = rw p at e in braced_backslash_breaks bs kind f
+  | inl p ↦ let f : grammar.after_backslash grammar.braced bs ≡ stops (Err kind) = rw p at e in braced_backslash_breaks bs kind f
   | inr p ↦ let f : grammar.with_run grammar.braced (b ∷ []) bs ≡ stops (Err kind) = rw p at e in cc
 ]
 
--- and never breaks
+-- and never has a fault
 pub inner_whole : (pieces : List grammar.Piece) (inner : List ℕ) (kind : TclKind) → ArePieces grammar.braced pieces inner (Err kind) → ⊥
 inner_whole [] inner kind r = inner_unbroken inner kind r
 inner_whole (p ∷ pieces) inner kind r = inner_whole pieces r.0 kind r.2
@@ -121,27 +121,27 @@ pub braced_stop : (text inner : List ℕ) (from : ℕ) (stop : Stop TclKind) →
 braced_stop text inner from (Refused kind) m = braced_whole text inner from kind m
 braced_stop text inner from NoMemory m = tt
 
-braced_front : (text : List ℕ) (from to : ℕ) (front : WordFront) → ClosesAt text (from + 1) to (behind_brace (drop (from + 1) text)) → from < length text → get_or text from 0 ≡ 123 → IsBraced (drop (from + 1) text) (Some (drop to text)) front → IsWordOf (opening (drop from text)) (drop from text) front
+braced_front : (text : List ℕ) (from to : ℕ) (front : WordFront) → ClosesAt text (from + 1) to (after_brace (drop (from + 1) text)) → from < length text → get_or text from 0 ≡ 123 → IsBraced (drop (from + 1) text) (Some (drop to text)) front → IsWordOf (opening (drop from text)) (drop from text) front
 braced_front text from to front c within e b =
     subst (λ o. IsWordOf o (drop from text) front) (sym (brace_here text from within e))
     (subst (λ o. IsBraced (drop (from + 1) text) o front) (sym c.is) b)
 
-pub inner_row : (text inner : List ℕ) (from to : ℕ) (spelled : Spelled) → ClosesAt text (from + 1) to (behind_brace (drop (from + 1) text)) → inner ≡ between text (from + 1) (to - 1) → (p : PiecesTo Braced inner 0 spelled) → ArePieces grammar.braced p.pieces (before (drop (from + 1) text) (125 ∷ drop to text)) (Ok [])
+pub inner_row : (text inner : List ℕ) (from to : ℕ) (spelled : Spelled) → ClosesAt text (from + 1) to (after_brace (drop (from + 1) text)) → inner ≡ between text (from + 1) (to - 1) → (p : PiecesTo Braced inner 0 spelled) → ArePieces grammar.braced p.pieces (before (drop (from + 1) text) (125 ∷ drop to text)) (Ok [])
 inner_row text inner from to spelled c e p =
     let whole : ArePieces grammar.braced p.pieces inner (Ok []) = subst (λ (t : List ℕ). ArePieces grammar.braced p.pieces inner (Ok t)) (inner_end p.pieces inner (drop spelled.end inner) p.row) p.row in
     subst (λ (t : List ℕ). ArePieces grammar.braced p.pieces t (Ok [])) (e ∙ sym (inner_is text from to c.forward c.within)) whole
 
-pub braced_word : (text inner : List ℕ) (from to : ℕ) (spelled : Spelled) → IsUtf8 text → from < length text → get_or text from 0 ≡ 123 → ClosesAt text (from + 1) to (behind_brace (drop (from + 1) text)) → inner ≡ between text (from + 1) (to - 1) → PiecesTo Braced inner 0 spelled → may_follow (drop to text) ≡ true → WordAt text from (record { word = spelled.word; end = to })
+pub braced_word : (text inner : List ℕ) (from to : ℕ) (spelled : Spelled) → IsUtf8 text → from < length text → get_or text from 0 ≡ 123 → ClosesAt text (from + 1) to (after_brace (drop (from + 1) text)) → inner ≡ between text (from + 1) (to - 1) → PiecesTo Braced inner 0 spelled → may_follow (drop to text) ≡ true → WordAt text from (record { word = spelled.word; end = to })
 braced_word text inner from to spelled utf8 within e c i p follows = record {
   stands = braced_front text from to (found spelled.word (drop to text)) c within e (p.pieces, inner_row text inner from to spelled c i p, closed (drop to text) follows);
   forward = omega (arith, c.forward);
   within = c.within;
-  boundary = c.behind utf8;
+  boundary = c.after utf8;
 } where
   closed : (rest : List ℕ) → may_follow rest ≡ true → found spelled.word rest ≡ ended_closed p.pieces (Ok rest)
   closed rest h = rw (h, p.word) refl
 
-pub braced_extra : (text inner : List ℕ) (from to : ℕ) (spelled : Spelled) → from < length text → get_or text from 0 ≡ 123 → ClosesAt text (from + 1) to (behind_brace (drop (from + 1) text)) → inner ≡ between text (from + 1) (to - 1) → PiecesTo Braced inner 0 spelled → may_follow (drop to text) ≡ false → WordFrom text from (Err ExtraAfterBrace)
+pub braced_extra : (text inner : List ℕ) (from to : ℕ) (spelled : Spelled) → from < length text → get_or text from 0 ≡ 123 → ClosesAt text (from + 1) to (after_brace (drop (from + 1) text)) → inner ≡ between text (from + 1) (to - 1) → PiecesTo Braced inner 0 spelled → may_follow (drop to text) ≡ false → WordFrom text from (Err ExtraAfterBrace)
 braced_extra text inner from to spelled within e c i p follows =
     braced_front text from to (stops (Err ExtraAfterBrace)) c within e (p.pieces, inner_row text inner from to spelled c i p, extra (drop to text) follows) where
       extra : (rest : List ℕ) → may_follow rest ≡ false → stops (Err ExtraAfterBrace) ≡ ended_closed p.pieces (Ok rest)
@@ -149,46 +149,46 @@ braced_extra text inner from to spelled within e c i p follows =
 
 -- ---- a bare word
 
-plain_goes : (rest after : List ℕ) → grammar.plain_dollar rest ≡ stops (Ok after) → ⊥
-plain_goes [] after e = cc
-plain_goes (b ∷ bs) after e = elim (cases_Bool (b == 123)) [
-  | inl p ↦ let f : grammar.braced_variable (front (λ c. not (c == 125)) bs) (behind (λ c. not (c == 125)) bs) ≡ stops (Ok after) = rw p at e in variable (front (λ c. not (c == 125)) bs) (behind (λ c. not (c == 125)) bs) f
-  | inr p ↦ let f : found (grammar.text (36 ∷ [])) (b ∷ bs) ≡ stops (Ok after) = rw p at e in cc
+plain_goes : (rest later : List ℕ) → grammar.plain_dollar rest ≡ stops (Ok later) → ⊥
+plain_goes [] later e = cc
+plain_goes (b ∷ bs) later e = elim (cases_Bool (b == 123)) [
+  | inl p ↦ let f : grammar.braced_variable (front (λ c. not (c == 125)) bs) (after (λ c. not (c == 125)) bs) ≡ stops (Ok later) = rw p at e in variable (front (λ c. not (c == 125)) bs) (after (λ c. not (c == 125)) bs) f
+  | inr p ↦ let f : found (grammar.text (36 ∷ [])) (b ∷ bs) ≡ stops (Ok later) = rw p at e in cc
 ] where
-  variable : (name more : List ℕ) → grammar.braced_variable name more ≡ stops (Ok after) → ⊥
+  variable : (name more : List ℕ) → grammar.braced_variable name more ≡ stops (Ok later) → ⊥
   variable name [] f = cc
   variable name (c ∷ cs) f = cc
 
-dollar_goes : (name rest after : List ℕ) → grammar.behind_dollar name rest ≡ stops (Ok after) → ⊥
-dollar_goes [] rest after e = plain_goes rest after e
-dollar_goes (b ∷ bs) rest after e = elim (cases_Bool (begins_with 40 rest)) [
-  | inl p ↦ let f : stops (Err BadWord) ≡ stops (Ok after) = rw p at e in cc
-  | inr p ↦ let f : found (grammar.other (part.Variable (b ∷ bs))) rest ≡ stops (Ok after) = rw p at e in cc
+dollar_goes : (name rest later : List ℕ) → grammar.after_dollar name rest ≡ stops (Ok later) → ⊥
+dollar_goes [] rest later e = plain_goes rest later e
+dollar_goes (b ∷ bs) rest later e = elim (cases_Bool (begins_with 40 rest)) [
+  | inl p ↦ let f : stops (Err BadWord) ≡ stops (Ok later) = rw p at e in cc
+  | inr p ↦ let f : found (grammar.other (part.Variable (b ∷ bs))) rest ≡ stops (Ok later) = rw p at e in cc
 ]
 
-script_goes : (inside : List ℕ) (o : Option (List ℕ)) (after : List ℕ) → grammar.behind_opening inside o ≡ stops (Ok after) → ⊥
-script_goes inside None after e = cc
-script_goes inside (Some rest) after e = cc
+script_goes : (inside : List ℕ) (o : Option (List ℕ)) (later : List ℕ) → grammar.after_opening inside o ≡ stops (Ok later) → ⊥
+script_goes inside None later e = cc
+script_goes inside (Some rest) later e = cc
 
-substituted_goes : (b : ℕ) (rest after : List ℕ) → grammar.substituted b rest ≡ stops (Ok after) → ⊥
-substituted_goes b rest after e = elim (cases_Bool (b == 36)) [
-  | inl p ↦ let f : grammar.behind_dollar (front is_name_byte rest) (behind is_name_byte rest) ≡ stops (Ok after) = rw p at e in dollar_goes (front is_name_byte rest) (behind is_name_byte rest) after f
-  | inr p ↦ let f : grammar.behind_opening rest (behind_bracket rest) ≡ stops (Ok after) = rw p at e in script_goes rest (behind_bracket rest) after f
+substituted_goes : (b : ℕ) (rest later : List ℕ) → grammar.substituted b rest ≡ stops (Ok later) → ⊥
+substituted_goes b rest later e = elim (cases_Bool (b == 36)) [
+  | inl p ↦ let f : grammar.after_dollar (front is_name_byte rest) (after is_name_byte rest) ≡ stops (Ok later) = rw p at e in dollar_goes (front is_name_byte rest) (after is_name_byte rest) later f
+  | inr p ↦ let f : grammar.after_opening rest (after_bracket rest) ≡ stops (Ok later) = rw p at e in script_goes rest (after_bracket rest) later f
 ]
 
 -- a byte of a word begins a piece
-bare_goes : (b : ℕ) (bs after : List ℕ) → starts (b ∷ bs) ≡ true → grammar.piece_at grammar.bare (b ∷ bs) ≡ stops (Ok after) → ⊥
+bare_goes : (b : ℕ) (bs later : List ℕ) → starts (b ∷ bs) ≡ true → grammar.piece_at grammar.bare (b ∷ bs) ≡ stops (Ok later) → ⊥
 unfolding grammar.piece_at
-bare_goes b bs after s e =
+bare_goes b bs later s e =
     let none = or_parts (is_space b || is_end b) (b == 92 && continues bs) (not-true (is_space b || is_end b || (b == 92 && continues bs)) s) in
     elim (cases_Bool (b == 92)) [
       | inl p ↦
           let h : continues bs ≡ false = rw p at none.1 in
-          let f : grammar.behind_backslash grammar.bare bs ≡ stops (Ok after) = rw (none.0, p) at e in
-          backslash_goes bs after h f
+          let f : grammar.after_backslash grammar.bare bs ≡ stops (Ok later) = rw (none.0, p) at e in
+          backslash_goes bs later h f
       | inr p ↦ elim (cases_Bool (b == 36 || b == 91)) [
-        | inl q ↦ let f : grammar.substituted b bs ≡ stops (Ok after) = rw (none.0, p, q) at e in substituted_goes b bs after f
-        | inr q ↦ let f : grammar.with_run grammar.bare (b ∷ []) bs ≡ stops (Ok after) = rw (none.0, p, q) at e in cc
+        | inl q ↦ let f : grammar.substituted b bs ≡ stops (Ok later) = rw (none.0, p, q) at e in substituted_goes b bs later f
+        | inr q ↦ let f : grammar.with_run grammar.bare (b ∷ []) bs ≡ stops (Ok later) = rw (none.0, p, q) at e in cc
       ]
     ]
 
@@ -220,6 +220,6 @@ bare_word text from spelled within s no_brace no_quote p = record {
       absurd (bare_goes (get_or text from 0) (drop (from + 1) text) (drop spelled.end text) (starts_within text from s within)
       (subst (λ (t : List ℕ). grammar.piece_at grammar.bare t ≡ stops (Ok (drop spelled.end text))) (drop_more text from 0 within) row))
 
-pub bare_break : (text : List ℕ) (from : ℕ) (kind : TclKind) → from < length text → starts (drop from text) ≡ true → (get_or text from 0 ≡ 123 → ⊥) → (get_or text from 0 ≡ 34 → ⊥) → PiecesFrom Bare text from (Err kind) → WordFrom text from (Err kind)
-bare_break text from kind within s no_brace no_quote p =
+pub bare_error : (text : List ℕ) (from : ℕ) (kind : TclKind) → from < length text → starts (drop from text) ≡ true → (get_or text from 0 ≡ 123 → ⊥) → (get_or text from 0 ≡ 34 → ⊥) → PiecesFrom Bare text from (Err kind) → WordFrom text from (Err kind)
+bare_error text from kind within s no_brace no_quote p =
     subst (λ o. IsWordOf o (drop from text) (stops (Err kind))) (sym (bare_here text from within s no_brace no_quote)) (p.0, Err kind, p.1, refl)

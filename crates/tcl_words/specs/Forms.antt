@@ -2,8 +2,8 @@
 -- Each function says for a value of the code what it is in the grammar.
 use Rattle.std.specs.Prelude.{◌==◌, ℕ, Bool, List, not}
 use Rattle.std.specs.Str.{IsCharBoundary}
-use Rattle.sdc_model.specs.Bytes.{is_name_byte, is_space}
-use Rattle.sdc_model.specs.Pieces as grammar
+use Rattle.text_model.specs.Bytes.{is_name_byte, is_space}
+use Rattle.tcl_model.specs.Pieces as grammar
 use Rattle.tcl_words.specs.declared.runs.Form.{Form}
 use Rattle.tcl_words.specs.declared.runs.Form.TheVariants.{Bare, Braced, Quoted}
 use Rattle.tcl_words.specs.declared.runs.Run.{Run}
@@ -23,8 +23,8 @@ test_of BeforeBrace = λ b. not (b == 125)
 test_of (Plain form) = grammar.is_itself (form_of form)
 
 -- where all bytes of a kind's outside are ASCII, a run of the kind cuts no character at its end, wherever it begins
-abbrev pub CutsBehind : Run → List ℕ → ℕ → Type 0
-CutsBehind Spaces text to = Unit {0}
-CutsBehind Name text to = Unit {0}
-CutsBehind BeforeBrace text to = IsCharBoundary text to
-CutsBehind (Plain form) text to = IsCharBoundary text to
+abbrev pub CutsAfter : Run → List ℕ → ℕ → Type 0
+CutsAfter Spaces text to = Unit {0}
+CutsAfter Name text to = Unit {0}
+CutsAfter BeforeBrace text to = IsCharBoundary text to
+CutsAfter (Plain form) text to = IsCharBoundary text to

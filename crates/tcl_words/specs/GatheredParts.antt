@@ -1,7 +1,7 @@
 -- What the reader gathered of a word, as the grammar of words has it. This project's own.
 -- Its fields are those of the grammar's record of the same name.
 use Rattle.std.specs.Prelude.{[]}
-use Rattle.sdc_model.specs.WordParts as grammar
+use Rattle.tcl_model.specs.WordParts as grammar
 use Rattle.tcl_words.specs.declared.gathered.Gathered.{Gathered}
 
 abbrev pub gathered_of : Gathered → grammar.Gathered

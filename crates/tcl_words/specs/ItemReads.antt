@@ -3,10 +3,10 @@
 use Rattle.std.specs.Prelude.{◌≡◌, ◌<◌, ◌≤◌, ◌||◌, ◌&&◌, ◌==◌, ◌⊎◌, ℕ, Bool, false, not, List, [], ◌∷◌, Some, drop, length, Result, Ok, Err}
 use Rattle.std.specs.Str.{IsCharBoundary}
 use Rattle.source_types.specs.declared.kinds.TclKind.{TclKind}
-use Rattle.sdc_model.specs.Continued.{continues}
-use Rattle.sdc_model.specs.ListItems.{AreItemPieces, IsItem, parts_items, text_of}
-use Rattle.sdc_model.specs.Pieces as grammar
-use Rattle.sdc_model.specs.Row.{found, stops}
+use Rattle.text_model.specs.Continued.{continues}
+use Rattle.tcl_model.specs.ListItems.{AreItemPieces, IsItem, parts_items, text_of}
+use Rattle.tcl_model.specs.Pieces as grammar
+use Rattle.text_model.specs.Row.{found, stops}
 use Rattle.tcl_words.specs.declared.lists.Item.{Item}
 use Rattle.tcl_words.specs.declared.runs.Form.{Form}
 use Rattle.tcl_words.specs.Forms.{form_of}

@@ -5,7 +5,7 @@ use Rattle.sdc_base.specs.declared.memory.At.{At}
 use Rattle.source_types.specs.declared.commands.Command.{Command}
 use Rattle.source_types.specs.declared.commands.Next.{Next}
 use Rattle.source_types.specs.declared.kinds.TclKind.{TclKind}
-use Rattle.sdc_model.specs.Commands.{FirstFrom, Splits}
+use Rattle.tcl_model.specs.Commands.{FirstFrom, Splits}
 
 -- two outcomes at a place and a line of a text are one
 abbrev pub HasOneFirst : List ℕ → ℕ → ℕ → Type 0

@@ -3,8 +3,8 @@
 -- has nothing else.
 use Rattle.std.specs.Prelude.{◌≡◌, ◌↔◌, ℕ, List, Result}
 use Rattle.source_types.specs.declared.kinds.TclKind.{TclKind}
-use Rattle.sdc_model.specs.ListItems.{Lists}
-use Rattle.sdc_model.specs.ListReading.{list_of}
+use Rattle.tcl_model.specs.ListItems.{Lists}
+use Rattle.tcl_model.specs.ListReading.{list_of}
 
 -- what the grammar relates to a text is what it is read as
 abbrev pub IsReadAlone : List ℕ → Type 0

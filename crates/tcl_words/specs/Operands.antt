@@ -7,9 +7,9 @@ use Rattle.sdc_base.specs.declared.memory.Stop.TheVariants.{NoMemory, Refused}
 use Rattle.source_types.specs.declared.expressions.ExpressionToken.TheVariants as token
 use Rattle.source_types.specs.declared.kinds.TclKind.{TclKind}
 use Rattle.source_types.specs.declared.kinds.TclKind.TheVariants.{BadExpr}
-use Rattle.sdc_model.specs.ExpressionTokens.{TokenFront, malformed}
-use Rattle.sdc_model.specs.Row.{found, stops}
-use Rattle.sdc_model.specs.WordParts.{word_of_pieces}
+use Rattle.tcl_model.specs.ExpressionTokens.{TokenFront, malformed}
+use Rattle.text_model.specs.Row.{found, stops}
+use Rattle.tcl_model.specs.WordParts.{word_of_pieces}
 use Rattle.tcl_words.specs.declared.pieces.Piece.{Piece}
 use Rattle.tcl_words.specs.declared.spelled.Spelled.{Spelled}
 use Rattle.tcl_words.specs.Steps.{piece_of}
@@ -29,7 +29,7 @@ abbrev pub as_malformed : Stop TclKind → Stop TclKind
 as_malformed (Refused kind) = Refused BadExpr
 as_malformed NoMemory = NoMemory
 
--- the word of a piece, and the place behind it
+-- the word of a piece, and the place after it
 abbrev pub IsOnePiece : List ℕ → Piece → Result Spelled TclKind → Type 0
 IsOnePiece text piece (Ok spelled) = (spelled.word ≡ word_of_pieces (piece_of text piece ∷ [])) × (spelled.end ≡ piece.next)
 IsOnePiece text piece (Err kind) = ⊥

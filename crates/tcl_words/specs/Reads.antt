@@ -4,12 +4,12 @@ use Rattle.std.specs.Prelude.{◌≡◌, ◌<◌, ◌≤◌, ◌||◌, ◌&&◌,
 use Rattle.std.specs.Str.{IsCharBoundary}
 use Rattle.source_types.specs.declared.commands.Word.{Word}
 use Rattle.source_types.specs.declared.kinds.TclKind.{TclKind}
-use Rattle.sdc_model.specs.Bytes.{is_end, is_space}
-use Rattle.sdc_model.specs.Commands.{ArePieces, AreWords, IsWordOf, opening}
-use Rattle.sdc_model.specs.Continued.{continues}
-use Rattle.sdc_model.specs.Pieces as grammar
-use Rattle.sdc_model.specs.Row.{found, stops}
-use Rattle.sdc_model.specs.WordParts.{word_of_pieces}
+use Rattle.text_model.specs.Bytes.{is_end, is_space}
+use Rattle.tcl_model.specs.Commands.{ArePieces, AreWords, IsWordOf, opening}
+use Rattle.text_model.specs.Continued.{continues}
+use Rattle.tcl_model.specs.Pieces as grammar
+use Rattle.text_model.specs.Row.{found, stops}
+use Rattle.tcl_model.specs.WordParts.{word_of_pieces}
 use Rattle.tcl_words.specs.declared.reader.Words.{Words}
 use Rattle.tcl_words.specs.declared.runs.Form.{Form}
 use Rattle.tcl_words.specs.declared.spelled.Spelled.{Spelled}

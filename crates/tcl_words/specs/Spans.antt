@@ -1,14 +1,14 @@
--- Spans of a text by their places: where what the grammar gives as the text behind something begins. This project's
+-- Spans of a text by their places: where what the grammar gives as the text after something begins. This project's
 -- own words for what a scanner finds. Each says what a rest of the text is, by the place where it begins.
 use Rattle.std.specs.Prelude.{◌≡◌, ◌≤◌, ◌∷◌, ℕ, Bool, true, List, [], drop, length}
 use Rattle.std.specs.Str.{IsCharBoundary, IsUtf8}
-use Rattle.sdc_model.specs.Bytes.{is_end}
+use Rattle.text_model.specs.Bytes.{is_end}
 
 -- from a place that cuts no character one comes to another such place
 abbrev pub Keeps : List ℕ → ℕ → ℕ → Type 0
 Keeps text from to = IsUtf8 text → IsCharBoundary text from → IsCharBoundary text to
 
--- a rest of the text begins at a place, at or behind another one
+-- a rest of the text begins at a place, at or after another one
 pub record LeadsTo (text : List ℕ) (from to : ℕ) (rest : List ℕ) : Type 0 where
   pub is : rest ≡ drop to text
   pub forward : from ≤ to

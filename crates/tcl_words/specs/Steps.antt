@@ -1,10 +1,10 @@
--- What stands at a place of a word, as the grammar has it: a piece with the place behind it, the end of the word, or
+-- What stands at a place of a word, as the grammar has it: a piece with the place after it, the end of the word, or
 -- a fault. This project's own words for what the reader of pieces finds.
 use Rattle.std.specs.Prelude.{◌≡◌, ◌<◌, ◌≤◌, ◌-◌, ◌+◌, ◌==◌, if◌then◌else◌, ℕ, List, [], ◌∷◌, Result, Ok, Err, drop, length, take}
 use Rattle.source_types.specs.declared.commands.Part.TheVariants as part
 use Rattle.source_types.specs.declared.kinds.TclKind.{TclKind}
-use Rattle.sdc_model.specs.Pieces as grammar
-use Rattle.sdc_model.specs.Row.{found, stops}
+use Rattle.tcl_model.specs.Pieces as grammar
+use Rattle.text_model.specs.Row.{found, stops}
 use Rattle.tcl_words.specs.declared.pieces.Kind.{Kind}
 use Rattle.tcl_words.specs.declared.pieces.Kind.TheVariants.{Blank, Newline, Script, Tab, Text, Variable}
 use Rattle.tcl_words.specs.declared.pieces.Piece.{Piece}
@@ -46,13 +46,13 @@ StepAt front text at (Ok (Found piece)) = (front ≡ found (piece_of text piece)
 StepAt front text at (Ok (Ends to)) = (front ≡ stops (Ok (drop to text))) × (at ≤ to) × (to ≤ length text) × Keeps text at to
 StepAt front text at (Err kind) = front ≡ stops (Err kind)
 
--- the place behind a word that a byte at a place ends
+-- the place after a word that a byte at a place ends
 abbrev pub end_of : Form → ℕ → ℕ
 end_of Braced at = at
 end_of Quoted at = at + 1
 end_of Bare at = at
 
--- a byte behind a backslash, outside braces
+-- a byte after a backslash, outside braces
 abbrev pub escaped_outside : grammar.Form → ℕ → List ℕ → grammar.PieceFront
 escaped_outside form b rest =
     if b == 110 then found (grammar.text (10 ∷ [])) rest

@@ -1,15 +1,15 @@
 //! What is passed over whole: braced words, and brackets with the words in them.
 
 ghost use Rattle.std.specs.Prelude.{◌≡◌, ◌≤◌, Bool, false, List, Some, length, drop, IfOk};
-ghost use Rattle.sdc_model.specs.Enclosed as grammar;
-ghost use Rattle.tcl_words.specs.Nests.{begins_in, behind_of, changed, nest_of, open_of, opens_of, ClosingAt};
+ghost use Rattle.text_model.specs.Enclosed as grammar;
+ghost use Rattle.tcl_words.specs.Nests.{begins_in, after_of, changed, nest_of, open_of, opens_of, ClosingAt};
 
 use crate::scan::leads_word;
 use sdc_base::NoMemory;
 use std::alloc::Global;
 
 /// What is open at a place.
-#[derive(Clone, Copy, Debug)]
+#[derive(Clone, Copy)]
 pub enum Open {
     Bracket,
     Quote,
@@ -17,7 +17,7 @@ pub enum Open {
 }
 
 /// What a byte does where something is open.
-#[derive(Clone, Copy, Debug)]
+#[derive(Clone, Copy)]
 enum Change {
     Opens(Open),
     Closes,
@@ -25,7 +25,7 @@ enum Change {
 }
 
 impl Open {
-    /// Whether a word may begin right behind what opens it.
+    /// Whether a word may begin right after what opens it.
     fn begins_word(self) -> bool
         ensures { result ≡ begins_in self }
     {
@@ -90,15 +90,15 @@ fn change_in_brace(byte: u8) -> Change
 }
 
 /// What is open at a place: the innermost, and what is open around it, the outermost first.
-#[derive(Debug, Drop)]
+#[derive(Drop)]
 struct Nest {
     inner: Open,
     outer: Vec<Open>,
 }
 
 impl Nest {
-    /// What is open behind a byte, `begins` telling whether a word may begin at it; `None` where it closes all.
-    fn behind(self, begins: bool, byte: u8) -> Result<Option<Nest>, NoMemory>
+    /// What is open after a byte, `begins` telling whether a word may begin at it; `None` where it closes all.
+    fn after(self, begins: bool, byte: u8) -> Result<Option<Nest>, NoMemory>
         ensures { IfOk result (λ found. nest_of found ≡ grammar.opened (open_of self.inner) (opens_of self.outer.items) begins byte) }
     {
         let Nest { inner, mut outer } = self;
@@ -122,7 +122,7 @@ impl Nest {
     }
 }
 
-/// The place behind what is opened right before a place, where it has its end. The one error is want of memory.
+/// The place after what is opened right before a place, where it has its end. The one error is want of memory.
 pub fn closing(
     alloc: Global,
     bytes: &[u8],
@@ -130,7 +130,7 @@ pub fn closing(
     first: Open,
 ) -> Result<Option<usize>, NoMemory>
     requires { from ≤ length bytes.now }
-    ensures { IfOk result (λ found. ClosingAt bytes.now from (behind_of first (drop from bytes.now)) found) }
+    ensures { IfOk result (λ found. ClosingAt bytes.now from (after_of first (drop from bytes.now)) found) }
 {
     let nest = Nest {
         inner: first,
@@ -139,12 +139,12 @@ pub fn closing(
     nest_end(bytes, from, nest, first.begins_word())
 }
 
-/// The place behind all that is open at a place, where each has its end; `begins` tells whether a word may begin
+/// The place after all that is open at a place, where each has its end; `begins` tells whether a word may begin
 /// there. The one error is want of memory.
 #[tactic(auto, using(crate::proofs::NestFacts::nest_begins, crate::proofs::NestFacts::nest_skips, crate::proofs::NestFacts::nest_passes, crate::proofs::NestFacts::nest_ends, crate::proofs::NestFacts::nest_ends_skipped, crate::proofs::NestFacts::nest_closes))]
 fn nest_end(bytes: &[u8], from: usize, nest: Nest, begins: bool) -> Result<Option<usize>, NoMemory>
     requires { from ≤ length bytes.now }
-    ensures { IfOk result (λ found. ClosingAt bytes.now from (grammar.behind_open (nest_of (Some nest)) begins false (drop from bytes.now)) found) }
+    ensures { IfOk result (λ found. ClosingAt bytes.now from (grammar.after_open (nest_of (Some nest)) begins false (drop from bytes.now)) found) }
 {
     let mut nest = nest;
     let mut begins = begins;
@@ -159,7 +159,7 @@ fn nest_end(bytes: &[u8], from: usize, nest: Nest, begins: bool) -> Result<Optio
             at += 2;
             continue;
         }
-        let Some(next) = nest.behind(begins, byte)? else {
+        let Some(next) = nest.after(begins, byte)? else {
             return Ok(Some(at + 1));
         };
         nest = next;

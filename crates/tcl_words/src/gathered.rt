@@ -2,19 +2,19 @@
 
 ghost use Rattle.std.specs.Prelude.{◌≡◌, ◌≤◌, length, IfOk, OnOk};
 ghost use Rattle.std.specs.Str.{IsCharBoundary};
-ghost use Rattle.sdc_model.specs.Pieces as grammar;
-ghost use Rattle.sdc_model.specs.WordParts.{all_parts, with_piece, with_text, word_of};
+ghost use Rattle.tcl_model.specs.Pieces as grammar;
+ghost use Rattle.tcl_model.specs.WordParts.{all_parts, with_piece, with_text, word_of};
 ghost use Rattle.tcl_words.specs.GatheredParts.{gathered_of, no_parts};
 ghost use Rattle.tcl_words.specs.Steps.{piece_of};
 
 use crate::pieces::{Kind, Piece};
 use sdc_base::{List, NoMemory, Text};
-use sdc_model::{Part, Word};
+use source_types::{Part, Word};
 use std::alloc::Global;
 use std::mem;
 
-/// The parts that are whole, and the text behind them so far.
-#[derive(Debug, Drop)]
+/// The parts that are whole, and the text after them so far.
+#[derive(Drop)]
 pub struct Gathered {
     pub parts: List<Part>,
     pub pending: Text,

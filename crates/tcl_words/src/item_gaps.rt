@@ -1,7 +1,7 @@
 //! What stands between the items of a list.
 
 ghost use Rattle.std.specs.Prelude.{◌≡◌, ◌<◌, ◌≤◌, length, drop};
-ghost use Rattle.sdc_model.specs.ListItems as grammar;
+ghost use Rattle.tcl_model.specs.ListItems as grammar;
 ghost use Rattle.tcl_words.specs.Spans.{LeadsTo, StepsTo};
 
 use crate::scan::{continues, is_space};
@@ -24,12 +24,12 @@ pub fn may_end_item(bytes: &[u8], at: usize) -> bool
     parts_items(bytes[at]) || (bytes[at] == b'\\' && continues(bytes, at + 1))
 }
 
-/// The place behind a byte that parts items, or behind the backslash of a continued line; the place itself where
+/// The place after a byte that parts items, or after the backslash of a continued line; the place itself where
 /// neither stands there.
 #[tactic(auto, using(crate::proofs::ItemGaps::steps_byte, crate::proofs::ItemGaps::steps_continued, crate::proofs::ItemGaps::steps_none))]
 fn parting_step(bytes: &[u8], at: usize) -> usize
     requires { at < length bytes.now }
-    ensures { StepsTo grammar.behind_parting bytes.now at result }
+    ensures { StepsTo grammar.after_parting bytes.now at result }
 {
     if parts_items(bytes[at]) {
         return at + 1;
@@ -40,11 +40,11 @@ fn parting_step(bytes: &[u8], at: usize) -> usize
     at
 }
 
-/// The place where the first item at or behind a place begins, or the end of the text.
+/// The place where the first item at or after a place begins, or the end of the text.
 #[tactic(auto, using(crate::proofs::GapFacts::reached_none, crate::proofs::GapFacts::reached_more, crate::proofs::GapFacts::reached_stays, crate::proofs::GapFacts::reached_end, crate::proofs::ItemGaps::parting_nil))]
 pub fn item_start(bytes: &[u8], from: usize) -> usize
     requires { from ≤ length bytes.now }
-    ensures { LeadsTo bytes.now from result (grammar.behind_parting (drop from bytes.now)) }
+    ensures { LeadsTo bytes.now from result (grammar.after_parting (drop from bytes.now)) }
 {
     let mut at = from;
     while at < bytes.len() {

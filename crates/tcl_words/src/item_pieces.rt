@@ -2,15 +2,15 @@
 
 ghost use Rattle.std.specs.Prelude.{◌≡◌, ◌≤◌, ◌++◌, length, drop, OnOk};
 ghost use Rattle.std.specs.Str.{IsCharBoundary};
-ghost use Rattle.sdc_model.specs.ListItems as grammar;
+ghost use Rattle.tcl_model.specs.ListItems as grammar;
 ghost use Rattle.tcl_words.specs.Forms.{form_of};
 ghost use Rattle.tcl_words.specs.Steps.{piece_of, StepAt};
 
 use crate::item_gaps::parts_items;
-use crate::pieces::{Kind, Piece, Step, behind_backslash, itself, text_end, word_end};
+use crate::pieces::{Kind, Piece, Step, after_backslash, itself, text_end, word_end};
 use crate::runs::{Form, Run, run_end};
 use sdc_base::{NoMemory, Text};
-use sdc_model::TclKind;
+use source_types::TclKind;
 
 /// Whether a byte ends an item of a form.
 fn ends_item(form: Form, byte: u8) -> bool
@@ -37,7 +37,7 @@ pub fn item_piece_at(bytes: &[u8], at: usize, form: Form) -> Result<Step, TclKin
         return Ok(Step::Ends(word_end(at, form)));
     }
     if byte == b'\\' {
-        return Ok(behind_backslash(bytes, at, form));
+        return Ok(after_backslash(bytes, at, form));
     }
     Ok(itself(at, run_end(bytes, at + 1, Run::Plain(form))))
 }

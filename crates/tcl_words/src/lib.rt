@@ -1,7 +1,7 @@
 //! Commands of a script, split into words, and lists (Tcl).
 //!
 //! It gives the layer above `next_command` and `split` for commands, `list_items` and `list_text` for lists, by the
-//! grammars of `sdc_model`, and the laws that each grammar has one outcome and that a list that was made reads back.
+//! grammars of `tcl_model`, and the laws that each grammar has one outcome and that a list that was made reads back.
 //! It leaves to others what a word's variables and scripts stand for.
 #![tactic(auto)]
 
@@ -29,4 +29,5 @@ pub use lists::list_items;
 pub use operand::{braced_operand, quoted_operand, script_operand, variable_operand};
 pub use reader::{next_command, split};
 pub use scan::{continues, is_space, stands_at};
+pub use source_types::{Command, Next, Part, Word};
 pub use spelled::Spelled;

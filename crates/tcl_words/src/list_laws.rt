@@ -2,11 +2,11 @@
 //! list that was made reads back.
 
 ghost use Rattle.std.specs.Prelude.{List, ℕ, Ok};
-ghost use Rattle.sdc_model.specs.ListItems.{Lists};
-ghost use Rattle.sdc_model.specs.ListText.{list_text};
+ghost use Rattle.tcl_model.specs.ListItems.{Lists};
+ghost use Rattle.tcl_model.specs.ListText.{list_text};
 ghost use Rattle.tcl_words.specs.ListLaws.{IsReadAlone};
 
-/// A text has one list of items or one first fault, one of them always and never both: what `list_of` of `sdc_model`
+/// A text has one list of items or one first fault, one of them always and never both: what `list_of` of `tcl_model`
 /// gives. So a fault stands exactly where the grammar has nothing else.
 pub fn list_is_one()
     ensures { (text : List ℕ) → IsReadAlone text }

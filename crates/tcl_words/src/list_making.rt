@@ -3,7 +3,7 @@
 ghost use Rattle.std.specs.Prelude.{◌≡◌, ◌<◌, ◌≤◌, ◌++◌, ◌∷◌, [], true, length, IfOk, OnOk};
 ghost use Rattle.std.specs.Str.{IsCharBoundary};
 ghost use Rattle.std.specs.List.{list_any};
-ghost use Rattle.sdc_model.specs.ListText as rule;
+ghost use Rattle.tcl_model.specs.ListText as rule;
 ghost use Rattle.tcl_words.specs.Taken.{IsPushed, UntakenTo, is_bare, untaken};
 
 use crate::scan::is_space;
@@ -55,7 +55,7 @@ fn taken(byte: u8) -> &'static str
     }
 }
 
-/// The place of the first byte at or behind a place that has a backslash, or the end of the text.
+/// The place of the first byte at or after a place that has a backslash, or the end of the text.
 fn untaken_end(bytes: &[u8], from: usize) -> usize
     requires { from ≤ length bytes.now }
     ensures { UntakenTo bytes.now from result }
@@ -68,7 +68,7 @@ fn untaken_end(bytes: &[u8], from: usize) -> usize
 }
 
 /// Adds the bytes of an item from a place on up to the first that has a backslash, and this one with it; gives the
-/// place behind it. The one error is want of memory.
+/// place after it. The one error is want of memory.
 #[tactic(auto, using(crate::proofs::TakenFacts::pushed_end, crate::proofs::TakenFacts::pushed_taken))]
 fn push_run(made: &mut Text, item: &str, from: usize) -> Result<usize, NoMemory>
     requires within { from < length item.now }

@@ -3,7 +3,7 @@
 ghost use Rattle.std.specs.Prelude.{◌≡◌, ◌<◌, ◌≤◌, true, length, drop, slice_index};
 ghost use Rattle.std.specs.Str.{IsCharBoundary};
 ghost use Rattle.sdc_base.specs.Gives.{Meets};
-ghost use Rattle.sdc_model.specs.ListItems.{Lists};
+ghost use Rattle.tcl_model.specs.ListItems.{Lists};
 ghost use Rattle.tcl_words.specs.declared.runs.Form.TheVariants as form;
 ghost use Rattle.tcl_words.specs.ItemReads.{ItemFrom, ItemPiecesFrom, starts_item};
 
@@ -13,18 +13,18 @@ use crate::item_pieces::{add_piece, item_piece_at};
 use crate::pieces::Step;
 use crate::runs::Form;
 use sdc_base::{List, Stop, Text};
-use sdc_model::TclKind;
+use source_types::TclKind;
 use std::alloc::Global;
 
 /// An item of a list, and where its spelling ends in bytes.
-#[derive(Debug, Drop)]
+#[derive(Drop)]
 pub struct Item {
     pub text: Text,
     pub end: usize,
 }
 
 /// The item of the pieces that stand from a place on.
-#[tactic(auto, using(crate::proofs::ItemRows::pieces_none, crate::proofs::ItemRows::pieces_more, crate::proofs::ItemRows::pieces_end, crate::proofs::ItemRows::pieces_break))]
+#[tactic(auto, using(crate::proofs::ItemRows::pieces_none, crate::proofs::ItemRows::pieces_more, crate::proofs::ItemRows::pieces_end, crate::proofs::ItemRows::pieces_error))]
 fn pieces_at(alloc: Global, text: &str, from: usize, form: Form) -> Result<Item, Stop<TclKind>>
     requires within { from ≤ length text.now }
     requires boundary { IsCharBoundary text.now from }
@@ -70,7 +70,7 @@ fn inner_pieces(alloc: Global, inner: &str) -> Result<Item, Stop<TclKind>>
 }
 
 /// The quoted item whose opening quote stands at a place.
-#[tactic(auto, using(crate::proofs::ItemFacts::quoted_item, crate::proofs::ItemFacts::quoted_extra, crate::proofs::ItemFacts::quoted_break))]
+#[tactic(auto, using(crate::proofs::ItemFacts::quoted_item, crate::proofs::ItemFacts::quoted_extra, crate::proofs::ItemFacts::quoted_error))]
 fn quoted_at(alloc: Global, text: &str, from: usize) -> Result<Item, Stop<TclKind>>
     requires within { from < length text.now }
     requires opens { slice_index text.now from ≡ 34 }
@@ -84,7 +84,7 @@ fn quoted_at(alloc: Global, text: &str, from: usize) -> Result<Item, Stop<TclKin
 }
 
 /// The bare item whose first byte stands at a place.
-#[tactic(auto, using(crate::proofs::ItemFacts::bare_item, crate::proofs::ItemFacts::bare_break))]
+#[tactic(auto, using(crate::proofs::ItemFacts::bare_item, crate::proofs::ItemFacts::bare_error))]
 fn bare_at(alloc: Global, text: &str, from: usize) -> Result<Item, Stop<TclKind>>
     requires within { from < length text.now }
     requires begins { starts_item (drop from text.now) ≡ true }
@@ -98,7 +98,7 @@ fn bare_at(alloc: Global, text: &str, from: usize) -> Result<Item, Stop<TclKind>
 }
 
 /// The item that begins at a place. Refused as `Unclosed` where a brace or a quote has no end, as
-/// `ExtraAfterBrace` where text stands right behind a closing one.
+/// `ExtraAfterBrace` where text stands right after a closing one.
 fn item_at(alloc: Global, text: &str, from: usize) -> Result<Item, Stop<TclKind>>
     requires within { from < length text.now }
     requires begins { starts_item (drop from text.now) ≡ true }
@@ -117,9 +117,9 @@ fn item_at(alloc: Global, text: &str, from: usize) -> Result<Item, Stop<TclKind>
 
 /// The items of a list (Tcl), in order. They are parted by blanks, tabs, carriage returns, newlines and continued
 /// lines; braces, quotes and backslashes act in them as in words, and every other byte stands for itself.
-/// Refused as `Unclosed` where a brace or a quote has no end, as `ExtraAfterBrace` where text stands right behind a
+/// Refused as `Unclosed` where a brace or a quote has no end, as `ExtraAfterBrace` where text stands right after a
 /// closing one, whichever stands first.
-#[tactic(auto, using(crate::proofs::ListFacts::items_none, crate::proofs::ListFacts::items_more, crate::proofs::ListFacts::items_all, crate::proofs::ListFacts::items_break, crate::proofs::ItemGaps::begins_item))]
+#[tactic(auto, using(crate::proofs::ListFacts::items_none, crate::proofs::ListFacts::items_more, crate::proofs::ListFacts::items_all, crate::proofs::ListFacts::items_error, crate::proofs::ItemGaps::begins_item))]
 pub fn list_items(alloc: Global, text: &str) -> Result<List<Text>, Stop<TclKind>>
     ensures { Meets result (Lists text.now) }
 {

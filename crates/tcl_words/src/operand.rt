@@ -3,9 +3,9 @@
 ghost use Rattle.std.specs.Prelude.{◌≡◌, ◌<◌, ◌≤◌, ◌+◌, length, drop, slice_index};
 ghost use Rattle.std.specs.Str.{IsCharBoundary};
 ghost use Rattle.sdc_base.specs.Gives.{Meets};
-ghost use Rattle.sdc_model.specs.Enclosed.{behind_brace};
-ghost use Rattle.sdc_model.specs.ExpressionTokens.{script_token, variable_token, IsBracedToken, IsQuotedToken};
-ghost use Rattle.sdc_model.specs.Pieces.{substituted};
+ghost use Rattle.text_model.specs.Enclosed.{after_brace};
+ghost use Rattle.tcl_model.specs.ExpressionTokens.{script_token, variable_token, IsBracedToken, IsQuotedToken};
+ghost use Rattle.tcl_model.specs.Pieces.{substituted};
 ghost use Rattle.tcl_words.specs.Operands.{as_malformed, IsFront, IsOnePiece, OperandAt};
 
 use crate::enclosed::{Open, closing};
@@ -14,7 +14,7 @@ use crate::pieces::{Kind, Piece, Step, piece_at};
 use crate::runs::Form;
 use crate::spelled::{Spelled, inner_pieces, pieces_at};
 use sdc_base::Stop;
-use sdc_model::TclKind;
+use source_types::TclKind;
 use std::alloc::Global;
 
 /// The braced text whose opening brace stands at a place, as an operand. Refused as `BadExpr` where it has no end.
@@ -22,7 +22,7 @@ use std::alloc::Global;
 pub fn braced_operand(alloc: Global, text: &str, from: usize) -> Result<Spelled, Stop<TclKind>>
     requires within { from < length text.now }
     requires opens { slice_index text.now from ≡ 123 }
-    ensures { Meets result (OperandAt (IsBracedToken (drop (from + 1) text.now) (behind_brace (drop (from + 1) text.now))) text.now from) }
+    ensures { Meets result (OperandAt (IsBracedToken (drop (from + 1) text.now) (after_brace (drop (from + 1) text.now))) text.now from) }
 {
     let Some(end) = closing(alloc, text.as_bytes(), from + 1, Open::Brace)? else {
         return Err(Stop::Refused(TclKind::BadExpr));
@@ -89,7 +89,7 @@ pub fn script_operand(alloc: Global, text: &str, from: usize) -> Result<Spelled,
     }
 }
 
-/// The word of one piece of a text, and the place behind it.
+/// The word of one piece of a text, and the place after it.
 fn one_piece(alloc: Global, text: &str, piece: Piece) -> Result<Spelled, Stop<TclKind>>
     requires order { piece.from ≤ piece.to }
     requires inside { piece.to ≤ length text.now }

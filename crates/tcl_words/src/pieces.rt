@@ -2,8 +2,8 @@
 
 ghost use Rattle.std.specs.Prelude.{◌≡◌, ◌<◌, ◌≤◌, ◌+◌, true, Ok, length, drop, slice_index};
 ghost use Rattle.sdc_base.specs.Gives.{Meets};
-ghost use Rattle.sdc_model.specs.Continued.{continues as goes_on};
-ghost use Rattle.sdc_model.specs.Pieces as grammar;
+ghost use Rattle.text_model.specs.Continued.{continues as goes_on};
+ghost use Rattle.tcl_model.specs.Pieces as grammar;
 ghost use Rattle.tcl_words.specs.Forms.{form_of};
 ghost use Rattle.tcl_words.specs.declared.pieces.Kind.TheVariants as kind;
 ghost use Rattle.tcl_words.specs.declared.pieces.Step.TheVariants as step;
@@ -14,7 +14,7 @@ use crate::runs::{Form, Run, run_end};
 use crate::scan::continues;
 use crate::substitutions::substituted;
 use sdc_base::Stop;
-use sdc_model::TclKind;
+use source_types::TclKind;
 use std::alloc::Global;
 
 /// What a piece stands for.
@@ -31,8 +31,8 @@ pub enum Kind {
     Script,
 }
 
-/// A piece: what it stands for, where its bytes, its name or its script begin and end, and the place behind it.
-#[derive(Clone, Copy, Debug)]
+/// A piece: what it stands for, where its bytes, its name or its script begin and end, and the place after it.
+#[derive(Clone, Copy)]
 pub struct Piece {
     pub kind: Kind,
     pub from: usize,
@@ -40,8 +40,8 @@ pub struct Piece {
     pub next: usize,
 }
 
-/// What stands at a place of a word: a piece, or the end of the word with the place behind it.
-#[derive(Clone, Copy, Debug)]
+/// What stands at a place of a word: a piece, or the end of the word with the place after it.
+#[derive(Clone, Copy)]
 pub enum Step {
     Found(Piece),
     Ends(usize),
@@ -86,7 +86,7 @@ pub fn piece_at(alloc: Global, bytes: &[u8], at: usize, form: Form) -> Result<St
         return Ok(Step::Ends(word_end(at, form)));
     }
     if byte == b'\\' {
-        return Ok(behind_backslash(bytes, at, form));
+        return Ok(after_backslash(bytes, at, form));
     }
     if form.substitutes(byte) {
         return substituted(alloc, bytes, at);
@@ -107,7 +107,7 @@ pub fn text_end(bytes: &[u8], at: usize, form: Form) -> Result<Step, TclKind>
     }
 }
 
-/// The place behind a word that a byte at a place ends: a closing quote belongs to it.
+/// The place after a word that a byte at a place ends: a closing quote belongs to it.
 pub fn word_end(at: usize, form: Form) -> usize
     requires { at < 18446744073709551615 }
     ensures { result ≡ end_of form at }
@@ -120,10 +120,10 @@ pub fn word_end(at: usize, form: Form) -> usize
 
 /// What stands at the place of a backslash.
 #[tactic(auto, using(crate::proofs::EscapeFacts::backslash_ends, crate::proofs::EscapeFacts::on_continued, crate::proofs::EscapeFacts::on_escaped))]
-pub fn behind_backslash(bytes: &[u8], at: usize, form: Form) -> Step
+pub fn after_backslash(bytes: &[u8], at: usize, form: Form) -> Step
     requires within { at < length bytes.now }
     requires backslash { slice_index bytes.now at ≡ 92 }
-    ensures { StepAt (grammar.behind_backslash (form_of form) (drop (at + 1) bytes.now)) bytes.now at (Ok result) }
+    ensures { StepAt (grammar.after_backslash (form_of form) (drop (at + 1) bytes.now)) bytes.now at (Ok result) }
 {
     if at + 1 == bytes.len() {
         return itself(at, at + 1);
@@ -149,7 +149,7 @@ fn continued(bytes: &[u8], at: usize, form: Form) -> Step
     }
 }
 
-/// A backslash at a place and the byte behind it: a newline, a tab, or the byte itself; in braces both stay.
+/// A backslash at a place and the byte after it: a newline, a tab, or the byte itself; in braces both stay.
 #[tactic(auto, using(crate::proofs::PieceFacts::kept_at))]
 fn escaped(bytes: &[u8], at: usize, form: Form) -> Step
     requires within { at + 1 < length bytes.now }

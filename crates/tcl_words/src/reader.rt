@@ -3,26 +3,26 @@
 ghost use Rattle.std.specs.Prelude.{◌≡◌, ◌<◌, ◌≤◌, true, length, drop, IfOk, IfSome};
 ghost use Rattle.std.specs.Str.{IsCharBoundary};
 ghost use Rattle.sdc_base.specs.Gives.{Meets};
-ghost use Rattle.sdc_model.specs.Commands.{FirstFrom, Splits};
+ghost use Rattle.tcl_model.specs.Commands.{FirstFrom, Splits};
 ghost use Rattle.tcl_words.specs.Reads.{starts, WordsFrom};
 
 use crate::between::{command_start, gap_end};
 use crate::scan::command_ends;
 use crate::spelled::{Spelled, word_at};
 use sdc_base::{At, List, Stop};
-use sdc_model::{Command, Next, TclKind, Word};
+use source_types::{Command, Next, TclKind, Word};
 use std::alloc::Global;
 use text_lines::line_at;
 
 /// The words of a command, and where it ends in bytes.
-#[derive(Debug, Drop)]
+#[derive(Drop)]
 pub struct Words {
     pub words: List<Word>,
     pub end: usize,
 }
 
 /// The words from a place, where one begins, to the end of the command there. Refused as `word_at` refuses.
-#[tactic(auto, using(crate::proofs::CommandFacts::words_none, crate::proofs::CommandFacts::words_more, crate::proofs::CommandFacts::words_end, crate::proofs::CommandFacts::words_break, crate::proofs::CommandFacts::begins_word, crate::proofs::CommandFacts::starts_long))]
+#[tactic(auto, using(crate::proofs::CommandFacts::words_none, crate::proofs::CommandFacts::words_more, crate::proofs::CommandFacts::words_end, crate::proofs::CommandFacts::words_error, crate::proofs::CommandFacts::begins_word, crate::proofs::CommandFacts::starts_long))]
 pub fn command_words(alloc: Global, text: &str, from: usize) -> Result<Words, Stop<TclKind>>
     requires within { from ≤ length text.now }
     requires begins { starts (drop from text.now) ≡ true }
@@ -43,12 +43,12 @@ pub fn command_words(alloc: Global, text: &str, from: usize) -> Result<Words, St
     }
 }
 
-/// The first command at or behind a place of a text (Tcl), with the place and the line where it ends; `None`
+/// The first command at or after a place of a text (Tcl), with the place and the line where it ends; `None`
 /// where only spaces, newlines, `;` and comments are left. `line` is that of the place.
 /// Refused with the line where the command begins, by the first word that cannot be read: `Unclosed`,
 /// `ExtraAfterBrace` or `BadWord`, as `word_at` says.
-/// The end of a command is behind `from` and cuts no character, so that this can be called again there.
-#[tactic(auto, using(crate::proofs::CommandFacts::first_none, crate::proofs::CommandFacts::first_found, crate::proofs::CommandFacts::first_break, crate::proofs::CommandFacts::begins_command, crate::proofs::CommandFacts::starts_long))]
+/// The end of a command is after `from` and cuts no character, so that this can be called again there.
+#[tactic(auto, using(crate::proofs::CommandFacts::first_none, crate::proofs::CommandFacts::first_found, crate::proofs::CommandFacts::first_error, crate::proofs::CommandFacts::begins_command, crate::proofs::CommandFacts::starts_long))]
 pub fn next_command(
     alloc: Global,
     text: &str,
@@ -72,12 +72,12 @@ pub fn next_command(
         Err(Stop::Refused(kind)) => return Err(Stop::Refused(At { line, kind })),
         Err(Stop::NoMemory) => return Err(Stop::NoMemory),
     };
-    let behind = line_at(bytes, begin, end, line);
+    let after = line_at(bytes, begin, end, line);
     let command = Command { line, words };
     Ok(Some(Next {
         command,
         end,
-        line: behind,
+        line: after,
     }))
 }
 

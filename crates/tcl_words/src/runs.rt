@@ -1,15 +1,15 @@
 //! Runs of bytes of one kind in a text.
 
 ghost use Rattle.std.specs.Prelude.{◌≡◌, ◌≤◌, length, drop};
-ghost use Rattle.sdc_model.specs.Bytes.{behind};
-ghost use Rattle.sdc_model.specs.Pieces.{ends_word, substitutes};
-ghost use Rattle.tcl_words.specs.Forms.{form_of, test_of, CutsBehind};
+ghost use Rattle.text_model.specs.Bytes.{after};
+ghost use Rattle.tcl_model.specs.Pieces.{ends_word, substitutes};
+ghost use Rattle.tcl_words.specs.Forms.{form_of, test_of, CutsAfter};
 ghost use Rattle.tcl_words.specs.Spans.{LeadsTo};
 
 use crate::scan::{is_end, is_space};
 
 /// The form of a word.
-#[derive(Clone, Copy, Debug)]
+#[derive(Clone, Copy)]
 pub enum Form {
     /// In `{` and `}`
     Braced,
@@ -44,7 +44,7 @@ impl Form {
 }
 
 /// A kind of bytes that stand in a run.
-#[derive(Clone, Copy, Debug)]
+#[derive(Clone, Copy)]
 pub enum Run {
     /// What parts words
     Spaces,
@@ -70,11 +70,11 @@ impl Run {
     }
 }
 
-/// The place behind the bytes of a kind that stand at a place.
+/// The place after the bytes of a kind that stand at a place.
 pub fn run_end(bytes: &[u8], from: usize, run: Run) -> usize
     requires { from ≤ length bytes.now }
-    ensures leads { LeadsTo bytes.now from result (behind (test_of run) (drop from bytes.now)) }
-    ensures cuts { CutsBehind run bytes.now result }
+    ensures leads { LeadsTo bytes.now from result (after (test_of run) (drop from bytes.now)) }
+    ensures cuts { CutsAfter run bytes.now result }
 {
     let mut at = from;
     while at < bytes.len() && run.has(bytes[at]) {

@@ -1,9 +1,9 @@
 //! Kinds of bytes, and what stands at a place of a text.
 
 ghost use Rattle.std.specs.Prelude.{◌≡◌, ◌≤◌, ◌||◌, length, drop};
-ghost use Rattle.sdc_model.specs.Bytes.{is_end as end, is_space as space, leads_word as leads, begins_with};
-ghost use Rattle.sdc_model.specs.Continued.{continues as goes_on};
-ghost use Rattle.sdc_model.specs.Commands.{may_follow as follows};
+ghost use Rattle.text_model.specs.Bytes.{is_end as end, is_space as space, leads_word as leads, begins_with};
+ghost use Rattle.text_model.specs.Continued.{continues as goes_on};
+ghost use Rattle.tcl_model.specs.Commands.{may_follow as follows};
 ghost use Rattle.tcl_words.specs.Spans.{ends_command};
 
 /// Whether a byte parts words: a space, a tab or a carriage return.
@@ -20,7 +20,7 @@ pub fn is_end(byte: u8) -> bool
     byte == b'\n' || byte == b';'
 }
 
-/// Whether a word may begin behind a byte, inside brackets.
+/// Whether a word may begin after a byte, inside brackets.
 pub fn leads_word(byte: u8) -> bool
     ensures { result ≡ leads byte }
 {

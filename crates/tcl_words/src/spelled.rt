@@ -12,18 +12,18 @@ use crate::pieces::{Step, piece_at};
 use crate::runs::Form;
 use crate::scan::may_follow;
 use sdc_base::Stop;
-use sdc_model::{TclKind, Word};
+use source_types::{TclKind, Word};
 use std::alloc::Global;
 
 /// A word of a text, and where its spelling ends in bytes.
-#[derive(Debug, Drop)]
+#[derive(Drop)]
 pub struct Spelled {
     pub word: Word,
     pub end: usize,
 }
 
 /// The word that stands at a place. Refused as `Unclosed` where a brace, a quote or a bracket has no end, as
-/// `ExtraAfterBrace` where text stands right behind a closing brace or quote, as `BadWord` where a variable is an
+/// `ExtraAfterBrace` where text stands right after a closing brace or quote, as `BadWord` where a variable is an
 /// element of an array.
 pub fn word_at(alloc: Global, text: &str, from: usize) -> Result<Spelled, Stop<TclKind>>
     requires within { from < length text.now }
@@ -67,7 +67,7 @@ pub fn inner_pieces(alloc: Global, inner: &str) -> Result<Spelled, Stop<TclKind>
 }
 
 /// The quoted word whose opening quote stands at a place.
-#[tactic(auto, using(crate::proofs::WordFacts::quoted_word, crate::proofs::WordFacts::quoted_extra, crate::proofs::WordFacts::quoted_break))]
+#[tactic(auto, using(crate::proofs::WordFacts::quoted_word, crate::proofs::WordFacts::quoted_extra, crate::proofs::WordFacts::quoted_error))]
 fn quoted_at(alloc: Global, text: &str, from: usize) -> Result<Spelled, Stop<TclKind>>
     requires within { from < length text.now }
     requires opens { slice_index text.now from ≡ 34 }
@@ -81,7 +81,7 @@ fn quoted_at(alloc: Global, text: &str, from: usize) -> Result<Spelled, Stop<Tcl
 }
 
 /// The bare word whose first byte stands at a place.
-#[tactic(auto, using(crate::proofs::WordFacts::bare_word, crate::proofs::WordFacts::bare_break))]
+#[tactic(auto, using(crate::proofs::WordFacts::bare_word, crate::proofs::WordFacts::bare_error))]
 fn bare_at(alloc: Global, text: &str, from: usize) -> Result<Spelled, Stop<TclKind>>
     requires within { from < length text.now }
     requires begins { starts (drop from text.now) ≡ true }
@@ -95,7 +95,7 @@ fn bare_at(alloc: Global, text: &str, from: usize) -> Result<Spelled, Stop<TclKi
 }
 
 /// The word of the pieces that stand from a place on.
-#[tactic(auto, using(crate::proofs::PieceRows::pieces_none, crate::proofs::PieceRows::pieces_more, crate::proofs::PieceRows::pieces_end, crate::proofs::PieceRows::pieces_break))]
+#[tactic(auto, using(crate::proofs::PieceRows::pieces_none, crate::proofs::PieceRows::pieces_more, crate::proofs::PieceRows::pieces_end, crate::proofs::PieceRows::pieces_error))]
 pub fn pieces_at(
     alloc: Global,
     text: &str,

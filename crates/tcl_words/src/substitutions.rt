@@ -2,9 +2,9 @@
 
 ghost use Rattle.std.specs.Prelude.{◌≡◌, ◌<◌, ◌+◌, true, length, drop, slice_index};
 ghost use Rattle.sdc_base.specs.Gives.{Meets};
-ghost use Rattle.sdc_model.specs.Bytes.{begins_with, behind, front, is_name_byte};
-ghost use Rattle.sdc_model.specs.Enclosed.{behind_bracket};
-ghost use Rattle.sdc_model.specs.Pieces as grammar;
+ghost use Rattle.text_model.specs.Bytes.{begins_with, after, front, is_name_byte};
+ghost use Rattle.text_model.specs.Enclosed.{after_bracket};
+ghost use Rattle.tcl_model.specs.Pieces as grammar;
 ghost use Rattle.tcl_words.specs.Steps.{StepAt};
 
 use crate::enclosed::{Open, closing};
@@ -12,7 +12,7 @@ use crate::pieces::{Kind, Piece, Step, itself};
 use crate::runs::{Run, run_end};
 use crate::scan::stands_at;
 use sdc_base::Stop;
-use sdc_model::TclKind;
+use source_types::TclKind;
 use std::alloc::Global;
 
 /// What stands at the place of a `$` or a `[`.
@@ -32,7 +32,7 @@ pub fn substituted(alloc: Global, bytes: &[u8], at: usize) -> Result<Step, Stop<
 fn variable(bytes: &[u8], at: usize) -> Result<Step, TclKind>
     requires within { at < length bytes.now }
     requires dollar { slice_index bytes.now at ≡ 36 }
-    ensures { StepAt (grammar.behind_dollar (front is_name_byte (drop (at + 1) bytes.now)) (behind is_name_byte (drop (at + 1) bytes.now))) bytes.now at result }
+    ensures { StepAt (grammar.after_dollar (front is_name_byte (drop (at + 1) bytes.now)) (after is_name_byte (drop (at + 1) bytes.now))) bytes.now at result }
 {
     let end = run_end(bytes, at + 1, Run::Name);
     if end == at + 1 {
@@ -62,7 +62,7 @@ fn plain_dollar(bytes: &[u8], at: usize) -> Result<Step, TclKind>
     Ok(itself(at, at + 1))
 }
 
-/// The variable whose name stands in braces behind the place of a `$`.
+/// The variable whose name stands in braces after the place of a `$`.
 #[tactic(auto, using(crate::proofs::SubstitutionFacts::name_unclosed, crate::proofs::SubstitutionFacts::brace_at))]
 fn braced_variable(bytes: &[u8], at: usize) -> Result<Step, TclKind>
     requires within { at < length bytes.now }
@@ -86,7 +86,7 @@ fn braced_variable(bytes: &[u8], at: usize) -> Result<Step, TclKind>
 fn script(alloc: Global, bytes: &[u8], at: usize) -> Result<Step, Stop<TclKind>>
     requires within { at < length bytes.now }
     requires small { slice_index bytes.now at < 128 }
-    ensures { Meets result (StepAt (grammar.behind_opening (drop (at + 1) bytes.now) (behind_bracket (drop (at + 1) bytes.now))) bytes.now at) }
+    ensures { Meets result (StepAt (grammar.after_opening (drop (at + 1) bytes.now) (after_bracket (drop (at + 1) bytes.now))) bytes.now at) }
 {
     let Some(next) = closing(alloc, bytes, at + 1, Open::Bracket)? else {
         return Err(Stop::Refused(TclKind::Unclosed));

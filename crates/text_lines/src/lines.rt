@@ -1,12 +1,12 @@
-//! The line behind a text, and the lines of its places.
+//! The line after a text, and the lines of its places.
 
 ghost use Rattle.std.specs.Prelude.{◌≡◌, ◌≤◌, ◌+◌, ◌-◌, ◌==◌, drop, length, min, take, if◌then◌else◌};
 ghost use Rattle.std.specs.Str.Lossy.{utf8_valid_len};
-ghost use Rattle.sdc_model.specs.Bytes.{last_line as greatest_line, line_after as line_after_text};
-ghost use Rattle.sdc_model.specs.LastLine.{broken_text_line, last_line_of};
+ghost use Rattle.text_model.specs.Bytes.{last_line as greatest_line, line_after as line_after_text};
+ghost use Rattle.text_model.specs.LastLine.{broken_text_line, last_line_of};
 
-/// The line behind a byte on a line. The greatest line number stays.
-pub fn line_behind(byte: u8, line: u32) -> u32
+/// The line after a byte on a line. The greatest line number stays.
+pub fn line_past(byte: u8, line: u32) -> u32
     ensures { result ≡ (if byte == 10 then min (line + 1) greatest_line else line) }
 {
     if byte == b'\n' {
@@ -15,13 +15,13 @@ pub fn line_behind(byte: u8, line: u32) -> u32
     line
 }
 
-/// The line behind a text that begins on a line.
+/// The line after a text that begins on a line.
 fn line_after(text: &[u8], first: u32) -> u32
     ensures { result ≡ line_after_text text.now first }
 {
     let mut line = first;
     for byte in text {
-        line = line_behind(*byte, line);
+        line = line_past(*byte, line);
     }
     line
 }

@@ -1,12 +1,12 @@
 //! What is derived from a mode over a design. This project's own forms.
 
 use crate::clocks::Wave;
+use pin_types::Node;
 use sdc_base::{Duplicate, List, NoMemory};
-use source_types::Node;
 use std::alloc::Global;
 
 /// The value of each pin that is constant, by pin. `specs/ConstantValues.antt` says which.
-#[derive(Debug, Drop, PartialEq, Eq)]
+#[derive(Drop)]
 pub struct Constants {
     pub values: List<Option<bool>>,
 }
@@ -20,7 +20,7 @@ impl Duplicate for Constants {
 
 /// The waveform of each clock of a mode, and the clock of the same mode that it is generated from, where it is a
 /// generated one. `specs/GeneratedWaves.antt` says which.
-#[derive(Debug, Drop, PartialEq, Eq)]
+#[derive(Drop)]
 pub struct Waves {
     pub waves: List<Wave>,
     pub masters: List<Option<u32>>,

@@ -2,12 +2,12 @@
 
 use crate::constraints::Exception;
 use crate::graphs::Graph;
+use pin_types::{ClockEdge, Node, both};
 use sdc_base::{Bits, Duplicate, List, NoMemory};
-use source_types::{ClockEdge, Node, both};
 use std::alloc::Global;
 
 /// A start of paths with a clock edge that launches there.
-#[derive(Clone, Copy, Debug, PartialEq, Eq, PartialOrd, Ord)]
+#[derive(Clone, Copy)]
 pub struct Launched {
     pub start: Node,
     pub launch: ClockEdge,
@@ -20,7 +20,7 @@ impl Duplicate for Launched {
 }
 
 /// How far a path has come in the through lists of an exception.
-#[derive(Clone, Copy, Debug, PartialEq, Eq, PartialOrd, Ord)]
+#[derive(Clone, Copy)]
 pub struct Met {
     /// The place of the exception in its pool.
     pub exception: u32,
@@ -35,7 +35,7 @@ impl Duplicate for Met {
 }
 
 /// A class of paths from a start to a node.
-#[derive(Debug, Drop, PartialEq, Eq, PartialOrd, Ord)]
+#[derive(Drop)]
 pub struct Class {
     pub launch: ClockEdge,
     pub start: Node,
@@ -58,7 +58,7 @@ impl Duplicate for Class {
 }
 
 /// The classes of all paths to each node, the nodes by number, each class once.
-#[derive(Debug, Drop, PartialEq, Eq)]
+#[derive(Drop)]
 pub struct ClassSets {
     pub at: List<List<Class>>,
 }
@@ -72,7 +72,7 @@ impl Duplicate for ClassSets {
 
 /// What classes are found over: a graph in topological order, with the arcs that are alive in the run and in each
 /// mode, the starts of paths, and the exceptions of all modes.
-#[derive(Debug, Drop)]
+#[derive(Drop)]
 pub struct Pool {
     pub graph: Graph,
     pub order: List<Node>,
@@ -101,7 +101,7 @@ impl Duplicate for Pool {
 }
 
 /// More classes than this were found.
-#[derive(Clone, Copy, Debug, PartialEq, Eq)]
+#[derive(Clone, Copy)]
 pub struct Budget {
     pub limit: u64,
 }

@@ -1,12 +1,12 @@
 //! Clocks as a mode defines them (SDC 2.1, `create_clock` and `create_generated_clock`), all times in whole
 //! femtoseconds.
 
+use pin_types::Pin;
 use sdc_base::{Duplicate, List, NoMemory, Text};
-use source_types::Pin;
 use std::alloc::Global;
 
 /// The waveform of a clock: its period, and the times of its first rise and of the fall after it.
-#[derive(Clone, Copy, Debug, PartialEq, Eq, PartialOrd, Ord)]
+#[derive(Clone, Copy, PartialEq, Eq, PartialOrd, Ord)]
 pub struct Wave {
     pub period: i64,
     pub rise: i64,
@@ -20,7 +20,7 @@ impl Duplicate for Wave {
 }
 
 /// How the waveform of a generated clock is made of its master's.
-#[derive(Clone, Copy, Debug, PartialEq, Eq, PartialOrd, Ord)]
+#[derive(Clone, Copy, PartialEq, Eq, PartialOrd, Ord)]
 pub enum Shape {
     Divide(u32),
     Multiply(u32),
@@ -35,7 +35,7 @@ impl Duplicate for Shape {
 }
 
 /// Whether a clock has a waveform of its own or is generated from a master.
-#[derive(Clone, Copy, Debug, PartialEq, Eq, PartialOrd, Ord)]
+#[derive(Clone, Copy, PartialEq, Eq, PartialOrd, Ord)]
 pub enum Form {
     Primary {
         wave: Wave,
@@ -55,7 +55,7 @@ impl Duplicate for Form {
 }
 
 /// A value for each transition of a clock.
-#[derive(Clone, Copy, Debug, PartialEq, Eq, PartialOrd, Ord)]
+#[derive(Clone, Copy, PartialEq, Eq, PartialOrd, Ord)]
 pub struct Early {
     pub rise: i64,
     pub fall: i64,
@@ -68,7 +68,7 @@ impl Duplicate for Early {
 }
 
 /// The latencies of a clock, outside the design (source) and in it (network).
-#[derive(Clone, Copy, Debug, PartialEq, Eq, PartialOrd, Ord)]
+#[derive(Clone, Copy, PartialEq, Eq, PartialOrd, Ord)]
 pub struct Latency {
     pub source_early: Early,
     pub source_late: Early,
@@ -83,7 +83,7 @@ impl Duplicate for Latency {
 }
 
 /// A clock of a mode. A clock without sources is virtual.
-#[derive(Debug, Drop, PartialEq, Eq)]
+#[derive(Drop)]
 pub struct Clock {
     /// The line of the command that made it.
     pub line: u32,
@@ -114,7 +114,7 @@ impl Duplicate for Clock {
 }
 
 /// Two clocks of a mode that are exclusive, the lesser place first.
-#[derive(Clone, Copy, Debug, PartialEq, Eq, PartialOrd, Ord)]
+#[derive(Clone, Copy, PartialEq, Eq, PartialOrd, Ord)]
 pub struct Pair {
     pub first: u32,
     pub second: u32,

@@ -1,11 +1,11 @@
 //! What a mode says of pins, ports and paths (SDC 2.1), all times in whole femtoseconds.
 
+use pin_types::{ClockEdge, Edge, Pin, Side, both};
 use sdc_base::{Duplicate, List, NoMemory};
-use source_types::{ClockEdge, Edge, Pin, Side, both};
 use std::alloc::Global;
 
 /// A pin that is set to a value (`set_case_analysis`).
-#[derive(Clone, Copy, Debug, PartialEq, Eq)]
+#[derive(Clone, Copy)]
 pub struct CaseSet {
     pub line: u32,
     pub pin: Pin,
@@ -19,7 +19,7 @@ impl Duplicate for CaseSet {
 }
 
 /// A pin, or a pair of pins of one cell, whose arcs are disabled (`set_disable_timing`).
-#[derive(Clone, Copy, Debug, PartialEq, Eq)]
+#[derive(Clone, Copy)]
 pub enum Disable {
     Pin { line: u32, pin: Pin },
     Between { line: u32, from: Pin, to: Pin },
@@ -32,7 +32,7 @@ impl Duplicate for Disable {
 }
 
 /// The delays outside a port to one clock edge, each where it is set (`set_input_delay`, `set_output_delay`).
-#[derive(Clone, Copy, Debug, PartialEq, Eq)]
+#[derive(Clone, Copy)]
 pub struct IoDelay {
     pub port: Pin,
     pub clock: ClockEdge,
@@ -49,7 +49,7 @@ impl Duplicate for IoDelay {
 }
 
 /// What an exception does to the paths that it matches.
-#[derive(Clone, Copy, Debug, PartialEq, Eq, PartialOrd, Ord)]
+#[derive(Clone, Copy)]
 pub enum ExCommand {
     FalsePath,
     Delay,
@@ -63,7 +63,7 @@ impl Duplicate for ExCommand {
 }
 
 /// Where a path begins or ends: pins, with a transition, or clocks, with an edge.
-#[derive(Debug, Drop, PartialEq, Eq, PartialOrd, Ord)]
+#[derive(Drop)]
 pub enum Points {
     Pins(Option<Edge>, List<Pin>),
     Clocks(Option<Edge>, List<u32>),
@@ -87,7 +87,7 @@ impl Duplicate for Points {
 }
 
 /// Pins of which a path meets one, with a transition where one is given.
-#[derive(Debug, Drop, PartialEq, Eq, PartialOrd, Ord)]
+#[derive(Drop)]
 pub struct Through {
     pub edge: Option<Edge>,
     pub pins: List<Pin>,
@@ -104,7 +104,7 @@ impl Duplicate for Through {
 }
 
 /// An exception of one side, as splitting gives it.
-#[derive(Debug, Drop, PartialEq, Eq, PartialOrd, Ord)]
+#[derive(Drop)]
 pub struct Exception {
     /// The line of the command that it comes from.
     pub line: u32,

@@ -1,11 +1,11 @@
 //! A design: what a flattened netlist says of its pins, cells and nets, by their places. This project's own numbering.
 
+use pin_types::{LibCell, Pin, both};
 use sdc_base::{Duplicate, List, NoMemory, Text};
-use source_types::{LibCell, Pin, both};
 use std::alloc::Global;
 
 /// What a pin of a design is: a port bit of the top module, or a pin of a cell, by its direction.
-#[derive(Clone, Copy, Debug, PartialEq, Eq)]
+#[derive(Clone, Copy)]
 pub enum Role {
     InPort,
     OutPort,
@@ -21,7 +21,7 @@ impl Duplicate for Role {
 }
 
 /// What drives a pin or a net: nothing, a constant, or a pin.
-#[derive(Clone, Copy, Debug, PartialEq, Eq)]
+#[derive(Clone, Copy)]
 pub enum Source {
     Nothing,
     Zero,
@@ -36,7 +36,7 @@ impl Duplicate for Source {
 }
 
 /// A pin of a design.
-#[derive(Debug, Drop, PartialEq, Eq)]
+#[derive(Drop)]
 pub struct PinInfo {
     pub name: Text,
     pub role: Role,
@@ -60,8 +60,8 @@ impl Duplicate for PinInfo {
     }
 }
 
-/// A cell of a design: its library cell by its place, and its pins, which stand one behind the other.
-#[derive(Debug, Drop, PartialEq, Eq)]
+/// A cell of a design: its library cell by its place, and its pins, which stand one after the other.
+#[derive(Drop)]
 pub struct CellInfo {
     pub name: Text,
     pub kind: u32,
@@ -82,7 +82,7 @@ impl Duplicate for CellInfo {
 }
 
 /// A net of a design.
-#[derive(Debug, Drop, PartialEq, Eq)]
+#[derive(Drop)]
 pub struct NetInfo {
     pub name: Text,
     pub source: Source,
@@ -99,7 +99,7 @@ impl Duplicate for NetInfo {
 }
 
 /// A flattened design. Pins, cells, nets and library cells are named by their places in these lists.
-#[derive(Debug, Drop)]
+#[derive(Drop)]
 pub struct Design {
     /// The name of the top module.
     pub top: Text,

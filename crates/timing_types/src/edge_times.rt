@@ -1,7 +1,7 @@
 //! Clock edges in time, and how two of them lie to each other.
 
+use pin_types::Edge;
 use sdc_base::{Duplicate, NoMemory, Text};
-use source_types::Edge;
 use std::alloc::Global;
 
 /// The setup and the hold relation of a launch edge and a capture edge, in whole femtoseconds.
@@ -11,9 +11,9 @@ use std::alloc::Global;
 /// `specs/Relation.antt` says so in full.
 #[derive(Debug, Clone, Copy, PartialEq, Eq)]
 pub struct Relation {
-    /// How far the next capture edge is behind a launch edge at the closest: above 0.
+    /// How far the next capture edge is after a launch edge at the closest: above 0.
     pub setup: i64,
-    /// How far a capture edge that is not behind a launch edge is from it at the closest: 0 or less.
+    /// How far a capture edge that is not after a launch edge is from it at the closest: 0 or less.
     pub hold: i64,
 }
 
@@ -25,7 +25,7 @@ impl Duplicate for Relation {
 
 /// An edge of a clock in time: the clock's name, which edge it is, when it comes first, and the clock's period,
 /// in whole femtoseconds.
-#[derive(Debug, Drop, PartialEq, Eq)]
+#[derive(Drop)]
 pub struct TimedEdge {
     pub clock: Text,
     pub edge: Edge,

@@ -2,12 +2,12 @@
 
 use crate::constraints::{ExCommand, Exception};
 use crate::objects::Object;
+use pin_types::Edge;
 use sdc_base::{Duplicate, List, NoMemory};
-use source_types::Edge;
 use std::alloc::Global;
 
 /// The sides that a command names.
-#[derive(Clone, Copy, Debug, PartialEq, Eq)]
+#[derive(Clone, Copy)]
 pub enum Sides {
     Unsaid,
     Setup,
@@ -22,7 +22,7 @@ impl Duplicate for Sides {
 }
 
 /// The objects of an option, with a transition where the option names one.
-#[derive(Debug, Drop)]
+#[derive(Drop)]
 pub struct GivenPoints {
     pub edge: Option<Edge>,
     pub objects: List<Object>,
@@ -39,7 +39,7 @@ impl Duplicate for GivenPoints {
 }
 
 /// One command.
-#[derive(Debug, Drop)]
+#[derive(Drop)]
 pub struct Given {
     pub line: u32,
     pub command: ExCommand,
@@ -75,7 +75,7 @@ impl Duplicate for Given {
 }
 
 /// The exceptions of one command, and whether it names an object that is no start or no end of paths.
-#[derive(Debug, Drop)]
+#[derive(Drop)]
 pub struct Normal {
     pub exceptions: List<Exception>,
     pub not_an_end: bool,

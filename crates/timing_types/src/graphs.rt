@@ -1,13 +1,13 @@
 //! The timing graph of a design: nodes, joined by arcs, and the checks at its pins.
 //! `specs/TimingGraph.antt` says which arcs and checks a design has. This project's own.
 
+use pin_types::{Node, Pin, Side};
 use sdc_base::{Duplicate, List, NoMemory};
-use source_types::{Node, Pin, Side};
 use std::alloc::Global;
 
 /// What an arc is: a net from its driver to a load, a path through a cell, or the step from a register's clock
 /// pin to an output.
-#[derive(Clone, Copy, Debug, PartialEq, Eq, PartialOrd, Ord)]
+#[derive(Clone, Copy)]
 pub enum ArcKind {
     Net,
     Cell,
@@ -21,7 +21,7 @@ impl Duplicate for ArcKind {
 }
 
 /// An arc of a graph, from a node to a node.
-#[derive(Clone, Copy, Debug, PartialEq, Eq, PartialOrd, Ord)]
+#[derive(Clone, Copy)]
 pub struct Arc {
     pub from: Node,
     pub to: Node,
@@ -35,7 +35,7 @@ impl Duplicate for Arc {
 }
 
 /// A check of a pin against a node of a clock pin.
-#[derive(Clone, Copy, Debug, PartialEq, Eq)]
+#[derive(Clone, Copy)]
 pub struct Check {
     /// The pin that is checked.
     pub end: Pin,
@@ -50,7 +50,7 @@ impl Duplicate for Check {
 }
 
 /// A timing graph.
-#[derive(Debug, Drop, PartialEq, Eq)]
+#[derive(Drop)]
 pub struct Graph {
     /// How many pins there are; each has two nodes.
     pub pins: u32,

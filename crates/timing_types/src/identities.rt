@@ -1,12 +1,12 @@
 //! What of a clock decides which merged clock it is. This project's own rule; `specs/ClockIdentity.antt` says it in full.
 
 use crate::clocks::{Form, Latency, Wave};
+use pin_types::Pin;
 use sdc_base::{Duplicate, List, NoMemory, Text};
-use source_types::Pin;
 use std::alloc::Global;
 
 /// The definition of a clock, all times in whole femtoseconds: what two clocks share where they may be one.
-#[derive(Debug, Drop, PartialEq, Eq, PartialOrd, Ord)]
+#[derive(Drop, PartialEq, Eq, PartialOrd, Ord)]
 pub struct Definition {
     pub sources: List<Pin>,
     pub wave: Wave,
@@ -34,7 +34,7 @@ impl Duplicate for Definition {
 }
 
 /// A clock as the ranks of its mode see it: its definition, its name, and its place in the mode.
-#[derive(Debug, Drop, PartialEq, Eq, PartialOrd, Ord)]
+#[derive(Drop, PartialEq, Eq, PartialOrd, Ord)]
 pub struct Standing {
     pub definition: Definition,
     pub name: Text,
@@ -54,7 +54,7 @@ impl Duplicate for Standing {
 }
 
 /// What makes clocks one: their definition, and their rank by name among the equal definitions of their mode.
-#[derive(Debug, Drop, PartialEq, Eq, PartialOrd, Ord)]
+#[derive(Drop, PartialEq, Eq, PartialOrd, Ord)]
 pub struct Identity {
     pub definition: Definition,
     pub rank: usize,

@@ -1,12 +1,12 @@
 //! The limits of paths, by where they begin and end. This project's own.
 
+use pin_types::{ClockEdge, Node, Pin, Side};
 use sdc_base::{Duplicate, List, NoMemory};
-use source_types::{ClockEdge, Node, Pin, Side};
 use std::alloc::Global;
 
 /// What the paths of one class have in each view: a limit in femtoseconds where the view times them, and the place
 /// of the exception that holds there.
-#[derive(Debug, Drop, PartialEq, Eq)]
+#[derive(Drop)]
 pub struct ClassResult {
     /// The place of the class at the key's last node.
     pub class: u64,
@@ -28,7 +28,7 @@ impl Duplicate for ClassResult {
 
 /// A key: paths with one start, one last node, one pair of clock edges and one side. The start is a port's node, or
 /// the rising node of a register's pin, which then stands for both.
-#[derive(Debug, Drop, PartialEq, Eq)]
+#[derive(Drop)]
 pub struct KeyResult {
     pub start: Node,
     pub last: Node,
@@ -53,7 +53,7 @@ impl Duplicate for KeyResult {
 }
 
 /// The keys with one end, one pair of clock edges and one side, by their places.
-#[derive(Debug, Drop, PartialEq, Eq)]
+#[derive(Drop)]
 pub struct RelationResult {
     pub end: Pin,
     pub launch: ClockEdge,

@@ -1,7 +1,7 @@
 //! The plain types of timing: designs, modes, graphs, keys, and what a check, an explanation or a merge answers.
 //!
-//! Data with public fields and `Duplicate`, whose answer equals the original, and no behaviour. They stand on
-//! `source_types`; `sdc_model` gives both, with the definitions over them.
+//! Data with public fields and `Duplicate`, whose answer equals the original, and no behaviour. It stands beside
+//! `source_types`, over `pin_types`.
 #![tactic(auto)]
 
 mod analyses;

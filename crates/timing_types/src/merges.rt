@@ -3,13 +3,13 @@
 use crate::analyses::Cycle;
 use crate::modes::Mode;
 use crate::views::ClockMap;
+use pin_types::{ClockEdge, ModeKind, Node, Pin, Side, both};
 use sdc_base::{At, Duplicate, List, NoMemory, Text};
-use source_types::{ClockEdge, ModeKind, Node, Pin, Side, both};
 use std::alloc::Global;
 
 /// A relation at an endpoint that the merged mode times without need or too strictly, on a path from the launch
 /// to the endpoint. Limits are femtoseconds; none is a relation that no mode times.
-#[derive(Debug, Drop, PartialEq, Eq, PartialOrd, Ord)]
+#[derive(Drop)]
 pub struct Listed {
     pub end: Pin,
     pub launch: ClockEdge,
@@ -36,7 +36,7 @@ impl Duplicate for Listed {
 }
 
 /// A command of a mode, by the mode's place and the command's line, that the merged mode does not have.
-#[derive(Debug, Drop, PartialEq, Eq, PartialOrd, Ord)]
+#[derive(Drop)]
 pub struct Left {
     pub mode: u32,
     pub line: u32,
@@ -56,7 +56,7 @@ impl Duplicate for Left {
 
 /// The merged mode, its clocks with the modes' clocks that they are, the relations that it times without need or
 /// too strictly, and the commands that it does not have.
-#[derive(Debug, Drop, PartialEq, Eq)]
+#[derive(Drop)]
 pub struct Merged {
     pub mode: Mode,
     pub clocks: ClockMap,
@@ -78,7 +78,7 @@ impl Duplicate for Merged {
 }
 
 /// Why modes have no merged mode. `specs/Stops.antt` says when each comes.
-#[derive(Debug, Drop, PartialEq, Eq)]
+#[derive(Drop)]
 pub enum MergeStop {
     /// The mode of this place has no analysis over the design.
     Mode(u32, At<ModeKind>),

@@ -3,13 +3,13 @@
 use crate::clocks::{Clock, Pair};
 use crate::constraints::{CaseSet, Disable, Exception, IoDelay};
 use crate::objects::{Kept, Note};
+use pin_types::both;
 use sdc_base::{Duplicate, List, NoMemory};
-use source_types::both;
 use std::alloc::Global;
 
 /// A mode. Clocks, exceptions, kept commands and notes stand in order of execution; exclusive pairs in order,
 /// each once; cases by pin; disabled pins by pin, then pairs; delays by port, clock and edge.
-#[derive(Debug, Drop, PartialEq, Eq)]
+#[derive(Drop)]
 pub struct Mode {
     pub clocks: List<Clock>,
     pub exclusive: List<Pair>,

@@ -1,11 +1,11 @@
 //! Objects that a command names, commands that are kept as they are, and notes.
 
+use pin_types::Pin;
 use sdc_base::{Duplicate, List, NoMemory, Text};
-use source_types::Pin;
 use std::alloc::Global;
 
 /// An object of a design or a mode, by its place.
-#[derive(Clone, Copy, Debug, PartialEq, Eq, PartialOrd, Ord)]
+#[derive(Clone, Copy)]
 pub enum Object {
     Clock(u32),
     Port(Pin),
@@ -21,7 +21,7 @@ impl Duplicate for Object {
 }
 
 /// A word of a command once it is evaluated: a text, or a list of objects.
-#[derive(Debug, Drop, PartialEq, Eq)]
+#[derive(Drop)]
 pub enum Value {
     Text(Text),
     Objects(List<Object>),
@@ -43,7 +43,7 @@ impl Duplicate for Value {
 }
 
 /// An environment command that is kept as it is, its name first.
-#[derive(Debug, Drop, PartialEq, Eq)]
+#[derive(Drop)]
 pub struct Kept {
     pub line: u32,
     pub words: List<Value>,
@@ -60,7 +60,7 @@ impl Duplicate for Kept {
 }
 
 /// Why a command had less effect than it asked for.
-#[derive(Clone, Copy, Debug, PartialEq, Eq)]
+#[derive(Clone, Copy)]
 pub enum NoteKind {
     NoEffect,
     NotAnEnd,
@@ -74,7 +74,7 @@ impl Duplicate for NoteKind {
 }
 
 /// A note on the command of a line.
-#[derive(Clone, Copy, Debug, PartialEq, Eq)]
+#[derive(Clone, Copy)]
 pub struct Note {
     pub line: u32,
     pub kind: NoteKind,

@@ -1,11 +1,11 @@
 //! Timing paths, and what exceptions and limits look at of one (SDC 2.1). This project's own forms.
 
+use pin_types::{ClockEdge, Node};
 use sdc_base::{Bits, Duplicate, List, NoMemory};
-use source_types::{ClockEdge, Node};
 use std::alloc::Global;
 
 /// A path with the clock edges that launch and capture it. `specs/TimingPath.antt` says which node lists are paths.
-#[derive(Debug, Drop, PartialEq, Eq)]
+#[derive(Drop)]
 pub struct Path {
     /// The nodes, the last one first: a path goes on in front, and is least where its list is, read from its end.
     pub nodes: List<Node>,
@@ -25,7 +25,7 @@ impl Duplicate for Path {
 }
 
 /// What an exception looks at of a path: its ends, and which exceptions' through lists it meets.
-#[derive(Debug, Drop)]
+#[derive(Drop)]
 pub struct PathFacts {
     pub start: Node,
     pub last: Node,
@@ -49,7 +49,7 @@ impl Duplicate for PathFacts {
 }
 
 /// The periods of a path's two clocks, in femtoseconds.
-#[derive(Clone, Copy, Debug, PartialEq, Eq)]
+#[derive(Clone, Copy)]
 pub struct Periods {
     pub launch: i64,
     pub capture: i64,

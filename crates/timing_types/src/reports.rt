@@ -1,12 +1,12 @@
 //! What checking and explaining one mode give. This project's own.
 
 use crate::analyses::Cycle;
+use pin_types::{ClockEdge, ModeKind, Node, Pin, Side};
 use sdc_base::{At, Duplicate, List, NoMemory};
-use source_types::{ClockEdge, ModeKind, Node, Pin, Side};
 use std::alloc::Global;
 
 /// What a mode was found to lack.
-#[derive(Clone, Copy, Debug, PartialEq, Eq)]
+#[derive(Clone, Copy)]
 pub enum FindingKind {
     /// A command names no object.
     NoEffect,
@@ -33,7 +33,7 @@ impl Duplicate for FindingKind {
 }
 
 /// A finding, at the line of a command or at a pin.
-#[derive(Clone, Copy, Debug, PartialEq, Eq)]
+#[derive(Clone, Copy)]
 pub struct Finding {
     pub kind: FindingKind,
     pub line: Option<u32>,
@@ -47,7 +47,7 @@ impl Duplicate for Finding {
 }
 
 /// The strictest limit at an endpoint under two clock edges, with the path that has it.
-#[derive(Debug, Drop, PartialEq, Eq)]
+#[derive(Drop)]
 pub struct RelationReport {
     pub launch: ClockEdge,
     pub capture: ClockEdge,
@@ -75,7 +75,7 @@ impl Duplicate for RelationReport {
 }
 
 /// All relations at an endpoint.
-#[derive(Debug, Drop, PartialEq, Eq)]
+#[derive(Drop)]
 pub struct Explained {
     pub end: Pin,
     pub relations: List<RelationReport>,
@@ -92,7 +92,7 @@ impl Duplicate for Explained {
 }
 
 /// Why a mode cannot be checked.
-#[derive(Debug, Drop, PartialEq, Eq)]
+#[derive(Drop)]
 pub enum CheckStop {
     Mode(At<ModeKind>),
     Loop(Cycle),
@@ -101,7 +101,7 @@ pub enum CheckStop {
 }
 
 /// Why an endpoint cannot be explained.
-#[derive(Debug, Drop, PartialEq, Eq)]
+#[derive(Drop)]
 pub enum ExplainStop {
     /// The name is no checked pin and no output port.
     NoEndpoint,

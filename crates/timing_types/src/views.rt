@@ -2,12 +2,12 @@
 
 use crate::clocks::{Clock, Wave};
 use crate::modes::Mode;
+use pin_types::{ClockEdge, both};
 use sdc_base::{Duplicate, List, NoMemory};
-use source_types::{ClockEdge, both};
 use std::alloc::Global;
 
 /// The clock edges that arrive at each node of a graph, the nodes by number, the edges of a node in order.
-#[derive(Debug, Drop, PartialEq, Eq)]
+#[derive(Drop)]
 pub struct Arrivals {
     pub at: List<List<ClockEdge>>,
 }
@@ -21,7 +21,7 @@ impl Duplicate for Arrivals {
 
 /// A mode, with what is derived from it: the waveform of each clock, where clock edges arrive, and which merged
 /// clock each clock is.
-#[derive(Debug, Drop, PartialEq, Eq)]
+#[derive(Drop)]
 pub struct View {
     pub mode: Mode,
     pub waves: List<Wave>,
@@ -44,7 +44,7 @@ impl Duplicate for View {
 
 /// The merged clocks of several modes with their waveforms, and for each mode the merged clock that each of its
 /// clocks is.
-#[derive(Debug, Drop, PartialEq, Eq)]
+#[derive(Drop)]
 pub struct ClockMap {
     pub clocks: List<Clock>,
     pub waves: List<Wave>,

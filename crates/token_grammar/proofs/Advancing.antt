@@ -1,22 +1,22 @@
--- What the machine's stack derives behind a token.
+-- What the machine's stack derives after a token.
 use Rattle.std.proofs.Common.{◌≡◌, ◌++◌, ◌&&◌, Bool, true, false, List, [], ◌∷◌, Option, Some, None, refl, sym, subst, if◌then◌else◌}
 use Rattle.std.proofs.lemmas.Bool.{and_from, both_ways}
 use Rattle.std.proofs.lemmas.Option.{none-some, same_Some}
 use Rattle.std.specs.Option.{is_some}
 use Rattle.sdc_base.proofs.CaseFacts.{by_bool}
 use Rattle.token_grammar.proofs.Derivations.{begun_by, by_option}
-use Rattle.token_grammar.proofs.Following.{IsClear, clear_behind, clear_rest, follows}
+use Rattle.token_grammar.proofs.Following.{IsClear, clear_after, clear_rest, follows}
 use Rattle.token_grammar.specs.Deciding.{Decides}
 use Rattle.token_grammar.specs.Machine.{advanced, begun_or}
 use Rattle.token_grammar.specs.Texts.{Derives, Table, begins, skips}
 
--- what is left behind a token derives the rest of what there was to come
+-- what is left after a token derives the rest of what there was to come
 pub left_derives : {S K : Type 0} (table : Table S K) (symbols left : List S) (kind : K) (kinds : List K) → advanced table symbols kind ≡ Some left → Derives table left kinds → Derives table symbols (kind ∷ kinds)
 left_derives table [] left kind kinds = λ is d. absurd (none-some left is)
 left_derives table (symbol ∷ symbols) left kind kinds =
     by_option (λ o. begun_or o symbols (if table.nullable symbol then advanced table symbols kind else None) ≡ Some left → Derives table left kinds → Derives table (symbol ∷ symbols) (kind ∷ kinds))
     (table.next symbol kind)
-    (λ behind next is d. begins next (subst (λ row. Derives table row kinds) (same_Some left (behind ++ symbols) (sym is)) d))
+    (λ after next is d. begins next (subst (λ row. Derives table row kinds) (same_Some left (after ++ symbols) (sym is)) d))
     (λ next.
     by_bool (λ b. (if b then advanced table symbols kind else None) ≡ Some left → Derives table left kinds → Derives table (symbol ∷ symbols) (kind ∷ kinds))
     (table.nullable symbol)
@@ -29,7 +29,7 @@ begins_none (Some x) may follow m f h = absurd (both_ways (may && (follow && tru
 
 -- what derives a token leaves what derives the rest
 pub derives_left : {S K : Type 0} (table : Table S K) (follow : S → K → Bool) → Decides table follow → {symbols : List S} {kind : K} {kinds : List K} → IsClear table follow symbols → Derives table symbols (kind ∷ kinds) → (left : List S) × (advanced table symbols kind ≡ Some left) × Derives table left kinds
-derives_left table follow decides clear (begins {behind = b} {symbols = ss} is d) = (b ++ ss, rw is refl, d)
+derives_left table follow decides clear (begins {after = b} {symbols = ss} is d) = (b ++ ss, rw is refl, d)
 derives_left table follow decides {kind = k} clear (skips {symbol = s} {symbols = ss} may d) =
     let none : table.next s k ≡ None = begins_none (table.next s k) (table.nullable s) (follow s k) may (follows table follow s ss k clear (begun_by table d)) (decides.apart s k) in
     let rest = derives_left table follow decides (clear_rest table follow s ss clear) d in
@@ -41,7 +41,7 @@ left_clear table follow decides [] left kind clear = λ is. absurd (none-some le
 left_clear table follow decides (symbol ∷ symbols) left kind clear =
     by_option (λ o. begun_or o symbols (if table.nullable symbol then advanced table symbols kind else None) ≡ Some left → IsClear table follow left)
     (table.next symbol kind)
-    (λ behind next is. subst (IsClear table follow) (same_Some (behind ++ symbols) left is) (clear_behind table follow decides symbol behind symbols kind next clear))
+    (λ after next is. subst (IsClear table follow) (same_Some (after ++ symbols) left is) (clear_after table follow decides symbol after symbols kind next clear))
     (λ next.
     by_bool (λ b. (if b then advanced table symbols kind else None) ≡ Some left → IsClear table follow left)
     (table.nullable symbol)

@@ -10,7 +10,7 @@ pub by_option : {A : Type 0} (P : Option A → Type 0) (o : Option A) → ((x : 
 by_option P (Some x) some none = some x refl
 by_option P None some none = none refl
 
--- symbols behind symbols derive tokens behind tokens
+-- symbols after symbols derive tokens after tokens
 pub joined : {S K : Type 0} (table : Table S K) {first second : List S} {xs ys : List K} → Derives table first xs → Derives table second ys → Derives table (first ++ second) (xs ++ ys)
 joined table done e = e
 joined table (begins is d) e = let h = joined table d e in begins is (rw append_assoc at h)

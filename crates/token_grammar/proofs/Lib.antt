@@ -1,6 +1,6 @@
 pub mod Advancing
-pub mod Breaking
 pub mod Derivations
 pub mod Ends
 pub mod Following
 pub mod Samples
+pub mod SyntaxErrors

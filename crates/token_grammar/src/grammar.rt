@@ -1,14 +1,15 @@
-//! What a grammar is, and where a text of tokens can break.
+//! What a grammar is, and what a syntax error is.
 
 ghost use Rattle.std.specs.Prelude.{◌≡◌, List, ℕ, Bool};
 ghost use Rattle.std.specs.Option.{option_map};
 ghost use Rattle.token_grammar.specs.Deciding.{Decides};
 ghost use Rattle.token_grammar.specs.Texts.{Table};
 
-/// Where tokens break that are to be a text: at the token that stands at a place, counted from 0, or at their end,
+/// The first syntax error in tokens that are to be a text: at the token that stands at a place, counted from 0, or
+/// at their end,
 /// where more tokens would have to follow.
 #[derive(Clone, Copy, Debug, PartialEq, Eq)]
-pub enum Break {
+pub enum SyntaxError {
     Token(usize),
     End,
 }
@@ -23,12 +24,12 @@ pub trait Grammar {
     /// The table.
     ghost table: { Table Self.Symbol Self.Kind };
 
-    /// The tokens that may stand behind a symbol that is nothing.
+    /// The tokens that may stand after a symbol that is nothing.
     ghost follow: { Self.Symbol → Self.Kind → Bool };
 
-    /// What stands behind a token that a symbol begins with.
+    /// What stands after a token that a symbol begins with.
     fn next(symbol: Self::Symbol, kind: Self::Kind) -> Option<&'static [Self::Symbol]>
-        ensures { option_map (λ behind. behind.now) result ≡ table.next symbol kind };
+        ensures { option_map (λ after. after.now) result ≡ table.next symbol kind };
 
     /// A symbol may be nothing.
     fn is_nullable(symbol: Self::Symbol) -> bool

@@ -28,8 +28,8 @@ pub(crate) fn advance<G: Grammar>(
     ensures { IfOk result (λ taken. advanced G.table (reverse stack.old.items) kind ≡ (if taken then Some (reverse stack.new.items) else None)) }
 {
     while let Some(symbol) = stack.pop() {
-        if let Some(behind) = G::next(symbol, kind) {
-            push_all(stack, behind)?;
+        if let Some(after) = G::next(symbol, kind) {
+            push_all(stack, after)?;
             return Ok(true);
         }
         if !G::is_nullable(symbol) {

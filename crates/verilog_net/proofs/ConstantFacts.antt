@@ -6,7 +6,7 @@ use Rattle.std.proofs.lemmas.List.{at_drop_more, drop_all, take_rest}
 use Rattle.std.proofs.lemmas.Nat.{pow-add, shr-shr}
 use Rattle.std.specs.List.{repeat}
 use Rattle.sdc_base.proofs.CaseFacts.{by_bool}
-use Rattle.sdc_model.specs.VerilogConstants as grammar
+use Rattle.netlist_model.specs.VerilogConstants as grammar
 
 pub rest_is : (bits rest : List (Option Bool)) (at : ℕ) → rest ≡ take (length bits - at) (drop at bits) → rest ≡ drop at bits
 rest_is bits rest at is = is ∙ take_rest bits at
@@ -73,15 +73,15 @@ same_next : (a b d : ℕ) → a % 18446744073709551616 ≡ b % 18446744073709551
 same_next a b d e =
     by_bool (λ s. (if s then a else (a * 10) + (d - 48)) % 18446744073709551616 ≡ (if s then b else (b * 10) + (d - 48)) % 18446744073709551616) (d == 95) (λ same. e) (λ apart. same_sum a b (d - 48) e)
 
-same_behind : (a b : ℕ) (ds : List ℕ) → a % 18446744073709551616 ≡ b % 18446744073709551616 → grammar.number_behind a ds % 18446744073709551616 ≡ grammar.number_behind b ds % 18446744073709551616
-same_behind a b [] e = e
-same_behind a b (d ∷ ds) e = same_behind (grammar.next_number a d) (grammar.next_number b d) ds (same_next a b d e)
+same_after : (a b : ℕ) (ds : List ℕ) → a % 18446744073709551616 ≡ b % 18446744073709551616 → grammar.number_after a ds % 18446744073709551616 ≡ grammar.number_after b ds % 18446744073709551616
+same_after a b [] e = e
+same_after a b (d ∷ ds) e = same_after (grammar.next_number a d) (grammar.next_number b d) ds (same_next a b d e)
 
 wrapped_twice : (m n : ℕ) → m ≡ n % 18446744073709551616 → m % 18446744073709551616 ≡ n % 18446744073709551616
 wrapped_twice m n e = omega arith
 
-wrapped_more : (m n : ℕ) (ds : List ℕ) → m ≡ n % 18446744073709551616 → grammar.number_behind m ds % 18446744073709551616 ≡ grammar.number_behind n ds % 18446744073709551616
-wrapped_more m n ds e = same_behind m n ds (wrapped_twice m n e)
+wrapped_more : (m n : ℕ) (ds : List ℕ) → m ≡ n % 18446744073709551616 → grammar.number_after m ds % 18446744073709551616 ≡ grammar.number_after n ds % 18446744073709551616
+wrapped_more m n ds e = same_after m n ds (wrapped_twice m n e)
 
 -- ---- the loops
 
@@ -100,16 +100,16 @@ low_bit_more bits more start p n b some bit_is is so_far =
 pub wrapped_few : (r n : ℕ) → r ≡ n % 18446744073709551616 → r < 18446744073709551616
 wrapped_few r n is = omega arith
 
-pub wrapped_step : (number r : ℕ) (digits : List ℕ) (i : ℕ) → i < length digits → grammar.number_behind number (drop i digits) % 18446744073709551616 ≡ grammar.number_of digits % 18446744073709551616
-    → r ≡ grammar.next_number number (get_or digits i 0) % 18446744073709551616 → grammar.number_behind r (drop (i + 1) digits) % 18446744073709551616 ≡ grammar.number_of digits % 18446744073709551616
+pub wrapped_step : (number r : ℕ) (digits : List ℕ) (i : ℕ) → i < length digits → grammar.number_after number (drop i digits) % 18446744073709551616 ≡ grammar.number_of digits % 18446744073709551616
+    → r ≡ grammar.next_number number (get_or digits i 0) % 18446744073709551616 → grammar.number_after r (drop (i + 1) digits) % 18446744073709551616 ≡ grammar.number_of digits % 18446744073709551616
 wrapped_step number r digits i inside so_far is =
     wrapped_more r (grammar.next_number number (get_or digits i 0)) (drop (i + 1) digits) is
-    ∙ (ap (λ (m : ℕ). m % 18446744073709551616) (sym (at_drop_more (grammar.number_behind number) digits i 0 inside)) ∙ so_far)
+    ∙ (ap (λ (m : ℕ). m % 18446744073709551616) (sym (at_drop_more (grammar.number_after number) digits i 0 inside)) ∙ so_far)
 
 kept : (n m : ℕ) → n < 18446744073709551616 → n % 18446744073709551616 ≡ m % 18446744073709551616 → n ≡ m % 18446744073709551616
 kept n m few same = omega arith
 
-pub wrapped_all : (number : ℕ) (digits : List ℕ) (i : ℕ) → length digits ≤ i → number < 18446744073709551616 → grammar.number_behind number (drop i digits) % 18446744073709551616 ≡ grammar.number_of digits % 18446744073709551616
+pub wrapped_all : (number : ℕ) (digits : List ℕ) (i : ℕ) → length digits ≤ i → number < 18446744073709551616 → grammar.number_after number (drop i digits) % 18446744073709551616 ≡ grammar.number_of digits % 18446744073709551616
     → number ≡ grammar.number_of digits % 18446744073709551616
 wrapped_all number digits i end few so_far =
-    kept number (grammar.number_of digits) few (ap (λ (ds : List ℕ). grammar.number_behind number ds % 18446744073709551616) (sym (drop_all i digits end)) ∙ so_far)
+    kept number (grammar.number_of digits) few (ap (λ (ds : List ℕ). grammar.number_after number ds % 18446744073709551616) (sym (drop_all i digits end)) ∙ so_far)

@@ -1,4 +1,4 @@
--- The faults of modules, one kind behind the other, and the first of them.
+-- The faults of modules, one kind after the other, and the first of them.
 use Rattle.std.proofs.Common.{◌≡◌, ◌∙◌, ◌+◌, ◌<◌, ◌++◌, ◌∷◌, ℕ, true, false, List, [], Option, None, Some, append_assoc, drop, get_or, length, map, nat_le, refl, sym, ap, arith}
 use Rattle.std.specs.Prelude.{if◌then◌else◌}
 use Rattle.std.proofs.lemmas.Bool.Decides.{nat_tests}
@@ -6,11 +6,11 @@ use Rattle.std.proofs.lemmas.List.{drop_more}
 use Rattle.std.specs.List.{flat_map}
 use Rattle.sdc_base.proofs.CaseFacts.{by_bool}
 use Rattle.source_types.specs.declared.fault_kinds.VerilogKind.TheVariants.{DoubleName, InoutPort, UnknownNet, WidthMismatch}
-use Rattle.sdc_model.specs.Verilog as spec
-use Rattle.sdc_model.specs.VerilogNets.{pieces_in}
-use Rattle.sdc_model.specs.VerilogStatements as grammar
-use Rattle.sdc_model.specs.VerilogSyntax as syntax
-use Rattle.sdc_model.specs.VerilogTokens as lexical
+use Rattle.netlist_model.specs.Verilog as spec
+use Rattle.netlist_model.specs.VerilogNets.{pieces_in}
+use Rattle.netlist_model.specs.VerilogStatements as grammar
+use Rattle.netlist_model.specs.VerilogSyntax as syntax
+use Rattle.netlist_model.specs.VerilogTokens as lexical
 use Rattle.verilog_net.specs.declared.names.Named.{Named}
 use Rattle.verilog_net.specs.Faults.{kept_wrong}
 use Rattle.verilog_net.specs.Modules.{written_seen}

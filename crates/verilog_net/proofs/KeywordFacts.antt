@@ -1,59 +1,41 @@
--- The keywords by their first letters are all.
-use Rattle.std.proofs.Common.{◌≡◌, ◌∙◌, ◌++◌, ℕ, Bool, true, false, List, refl, sym, ap}
-use Rattle.std.proofs.lemmas.List.Folds.{list_any-append}
-use Rattle.std.specs.Prelude.{◌||◌}
+-- The table of keywords gives each word the kind that the grammar says.
+use Rattle.std.proofs.Common.{◌≡◌, ℕ, Bool, true, false, List, [], ◌∷◌, map, refl, ap, if◌then◌else◌}
+use Rattle.std.specs.Prelude.{◌||◌, codes}
 use Rattle.std.specs.List.{list_any}
-use Rattle.sdc_model.specs.VerilogWords.{other_keywords}
-use Rattle.sdc_model.specs.Words.{same_text}
-use Rattle.verilog_net.specs.Keywords.{a_to_c, d_to_e, ends, f_to_g, h_to_i, j_to_n, o_to_p, u_to_x, with_r, with_s, with_t}
+use Rattle.source_types.specs.declared.verilog_tokens.VerilogToken.{VerilogToken}
+use Rattle.source_types.specs.declared.verilog_tokens.VerilogToken.TheVariants as kind
+use Rattle.netlist_model.specs.VerilogWords.{other_keywords, word_kind}
+use Rattle.text_model.specs.Words.{same_text}
+use Rattle.verilog_net.specs.Keywords.{kind_of}
 
--- the keywords, one list behind another
-all_lists : List (List ℕ)
-all_lists = a_to_c ++ (d_to_e ++ (ends ++ (f_to_g ++ (h_to_i ++ (j_to_n ++ (o_to_p ++ (with_r ++ (with_s ++ (with_t ++ u_to_x)))))))))
+-- the keywords of the grammar, then those that it has not
+abbrev pub table : List (List ℕ × VerilogToken)
+table =
+    (codes "module", kind.Module) ∷ (codes "endmodule", kind.EndModule) ∷ (codes "input", kind.Input)
+    ∷ (codes "output", kind.Output) ∷ (codes "inout", kind.Inout) ∷ (codes "wire", kind.Wire) ∷ (codes "tri", kind.Tri)
+    ∷ (codes "supply0", kind.Supply0) ∷ (codes "supply1", kind.Supply1) ∷ (codes "assign", kind.Assign)
+    ∷ map (λ word. (word, kind.Other)) other_keywords
 
-lists_are : all_lists ≡ other_keywords
-unfolding all_lists a_to_c d_to_e ends f_to_g h_to_i j_to_n o_to_p u_to_x with_r with_s with_t other_keywords
-lists_are = refl
+one_more : (is_first is_later : Bool) (k : VerilogToken) → k ≡ (if is_later then kind.Other else kind.Name)
+    → (if is_first then kind.Other else k) ≡ (if is_first || is_later then kind.Other else kind.Name)
+one_more true is_later k is = refl
+one_more false is_later k is = is
 
-regroup : (a b c d e f g h i j k : Bool) → ((a || b || c || d) || (e || f || g) || (h || i || j || k)) ≡ (a || (b || (c || (d || (e || (f || (g || (h || (i || (j || k))))))))))
-regroup true b c d e f g h i j k = refl
-regroup false true c d e f g h i j k = refl
-regroup false false true d e f g h i j k = refl
-regroup false false false true e f g h i j k = refl
-regroup false false false false true f g h i j k = refl
-regroup false false false false false true g h i j k = refl
-regroup false false false false false false true h i j k = refl
-regroup false false false false false false false true i j k = refl
-regroup false false false false false false false false true j k = refl
-regroup false false false false false false false false false true k = refl
-regroup false false false false false false false false false false k = refl
+others : (words : List (List ℕ)) (word : List ℕ) → kind_of (map (λ other. (other, kind.Other)) words) word ≡ (if list_any (same_text word) words then kind.Other else kind.Name)
+others [] word = refl
+others (other ∷ words) word = one_more (same_text word other) (list_any (same_text word) words) (kind_of (map (λ w. (w, kind.Other)) words) word) (others words word)
 
-ten : (p : List ℕ → Bool) (a b c d e f g h i j k : List (List ℕ))
-    → list_any p (a ++ (b ++ (c ++ (d ++ (e ++ (f ++ (g ++ (h ++ (i ++ (j ++ k))))))))))
-    ≡ (list_any p a || (list_any p b || (list_any p c || (list_any p d || (list_any p e || (list_any p f || (list_any p g || (list_any p h || (list_any p i || (list_any p j || list_any p k))))))))))
-ten p a b c d e f g h i j k = simp list_any-append
-
-pub all_keywords : (word : List ℕ)
-    → ((list_any (same_text word) a_to_c || list_any (same_text word) d_to_e || list_any (same_text word) ends || list_any (same_text word) f_to_g)
-    || (list_any (same_text word) h_to_i || list_any (same_text word) j_to_n || list_any (same_text word) o_to_p)
-    || (list_any (same_text word) with_r || list_any (same_text word) with_s || list_any (same_text word) with_t || list_any (same_text word) u_to_x))
-    ≡ list_any (same_text word) other_keywords
-unfolding all_lists
-all_keywords word =
-    regroup (list_any (same_text word) a_to_c) (list_any (same_text word) d_to_e) (list_any (same_text word) ends) (list_any (same_text word) f_to_g) (list_any (same_text word) h_to_i) (list_any (same_text word) j_to_n) (list_any (same_text word) o_to_p) (list_any (same_text word) with_r) (list_any (same_text word) with_s) (list_any (same_text word) with_t) (list_any (same_text word) u_to_x)
-    ∙ (sym (ten (same_text word) a_to_c d_to_e ends f_to_g h_to_i j_to_n o_to_p with_r with_s with_t u_to_x)
-    ∙ ap (list_any (same_text word)) lists_are)
-
-kept : (early late : Bool) → early ≡ true → early ≡ (early || late)
-kept true late h = refl
-kept false late h = cc
-
--- a word of the first lists is one
-pub early_keywords : (word : List ℕ) (early : Bool)
-    → early ≡ ((list_any (same_text word) a_to_c || list_any (same_text word) d_to_e || list_any (same_text word) ends || list_any (same_text word) f_to_g)
-    || (list_any (same_text word) h_to_i || list_any (same_text word) j_to_n || list_any (same_text word) o_to_p))
-    → early ≡ true → early ≡ list_any (same_text word) other_keywords
-early_keywords word early is holds =
-    kept early (list_any (same_text word) with_r || list_any (same_text word) with_s || list_any (same_text word) with_t || list_any (same_text word) u_to_x) holds
-    ∙ (ap (λ b. b || (list_any (same_text word) with_r || list_any (same_text word) with_s || list_any (same_text word) with_t || list_any (same_text word) u_to_x)) is
-    ∙ all_keywords word)
+pub table_is : (word : List ℕ) → kind_of table word ≡ word_kind word
+unfolding word_kind
+table_is word = ap (λ (rest : VerilogToken).
+    if same_text word (codes "module") then kind.Module
+    else (if same_text word (codes "endmodule") then kind.EndModule
+    else (if same_text word (codes "input") then kind.Input
+    else (if same_text word (codes "output") then kind.Output
+    else (if same_text word (codes "inout") then kind.Inout
+    else (if same_text word (codes "wire") then kind.Wire
+    else (if same_text word (codes "tri") then kind.Tri
+    else (if same_text word (codes "supply0") then kind.Supply0
+    else (if same_text word (codes "supply1") then kind.Supply1
+    else (if same_text word (codes "assign") then kind.Assign
+    else rest)))))))))) (others other_keywords word)

@@ -3,7 +3,7 @@ use Rattle.std.proofs.Common.{◌≡◌, ◌∙◌, ◌+◌, ◌≤◌, ◌++◌
 use Rattle.indexmap.specs.IndexSet.{IndexSet}
 use Rattle.source_types.specs.declared.verilog_tokens.VerilogToken.{VerilogToken}
 use Rattle.source_types.specs.declared.verilog_tokens.VerilogToken.TheVariants as kind
-use Rattle.sdc_model.specs.VerilogKinds as grammar
+use Rattle.netlist_model.specs.VerilogKinds as grammar
 use Rattle.verilog_net.specs.declared.contexts.Part.{Part}
 use Rattle.verilog_net.specs.declared.contexts.Part.TheVariants.{Statement}
 use Rattle.verilog_net.specs.declared.tokens.Token.{Token}
@@ -30,11 +30,11 @@ pub one_kind : {A S : Type 0} (tokens rest : List Token) (token : Token) (at : �
     → (so_far : KindsSoFar tokens at kinds part names braces) → drop at tokens ≡ token ∷ rest → drop (at + 1) tokens ≡ rest
     → more ≡ kinds ++ k ∷ []
     → ((listed : List (List ℕ)) → HasNames names listed → k ≡ grammar.kind_in (record { part = part_seen part; listed = listed; braces = braces }) token.text.now token.kind)
-    → ((listed : List (List ℕ)) → HasNames names listed → HasNames then (grammar.listed_behind (part_seen part) listed token.text.now token.kind))
-    → part_seen next ≡ grammar.part_behind (part_seen part) token.kind → braces_now ≡ grammar.braces_behind braces token.kind → braces_now ≤ braces + 1
+    → ((listed : List (List ℕ)) → HasNames names listed → HasNames then (grammar.listed_after (part_seen part) listed token.text.now token.kind))
+    → part_seen next ≡ grammar.part_after (part_seen part) token.kind → braces_now ≡ grammar.braces_after braces token.kind → braces_now ≤ braces + 1
     → KindsSoFar tokens (at + 1) more next then braces_now
-one_kind tokens rest token at kinds more part next names then braces braces_now k so_far here behind is kind_is names_are part_is braces_are braces_few = record {
-  listed = grammar.listed_behind (part_seen part) so_far.listed token.text.now token.kind;
+one_kind tokens rest token at kinds more part next names then braces braces_now k so_far here after is kind_is names_are part_is braces_are braces_few = record {
+  listed = grammar.listed_after (part_seen part) so_far.listed token.text.now token.kind;
   has = names_are so_far.listed so_far.has;
   few = omega (arith, braces_few, so_far.few);
   same = step;
@@ -43,17 +43,17 @@ one_kind tokens rest token at kinds more part next names then braces braces_now 
   now = record { part = part_seen part; listed = so_far.listed; braces = braces }
 
   later : grammar.Context
-  later = record { part = part_seen next; listed = grammar.listed_behind (part_seen part) so_far.listed token.text.now token.kind; braces = braces_now }
+  later = record { part = part_seen next; listed = grammar.listed_after (part_seen part) so_far.listed token.text.now token.kind; braces = braces_now }
 
-  follows : later ≡ grammar.context_behind now (token_seen token)
+  follows : later ≡ grammar.context_after now (token_seen token)
   follows = rw (part_is, braces_are) refl
 
   first : k ∷ grammar.kinds_from later (tokens_seen rest) ≡ grammar.kinds_from now (tokens_seen (token ∷ rest))
-  first = ap (λ c. k ∷ grammar.kinds_from c (tokens_seen rest)) follows ∙ ap (λ j. j ∷ grammar.kinds_from (grammar.context_behind now (token_seen token)) (tokens_seen rest)) (kind_is so_far.listed so_far.has)
+  first = ap (λ c. k ∷ grammar.kinds_from c (tokens_seen rest)) follows ∙ ap (λ j. j ∷ grammar.kinds_from (grammar.context_after now (token_seen token)) (tokens_seen rest)) (kind_is so_far.listed so_far.has)
 
   step : more ++ grammar.kinds_from later (tokens_seen (drop (at + 1) tokens)) ≡ grammar.kinds_of (tokens_seen tokens)
   step =
-      ap (λ ts. more ++ grammar.kinds_from later (tokens_seen ts)) behind
+      ap (λ ts. more ++ grammar.kinds_from later (tokens_seen ts)) after
       ∙ (ap (λ ks. ks ++ grammar.kinds_from later (tokens_seen rest)) is
       ∙ (append_assoc kinds (k ∷ []) (grammar.kinds_from later (tokens_seen rest))
       ∙ (ap (λ ks. kinds ++ ks) first

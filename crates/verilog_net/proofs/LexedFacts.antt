@@ -9,16 +9,16 @@ use Rattle.std.proofs.lemmas.List.{drop-drop, drop_more, length-drop}
 use Rattle.std.proofs.lemmas.Str.{IsCharBoundary-after_ascii}
 use Rattle.source_types.specs.declared.verilog_tokens.VerilogToken.{VerilogToken}
 use Rattle.source_types.specs.declared.verilog_tokens.VerilogToken.TheVariants as kind
-use Rattle.sdc_model.specs.Bytes.{is_digit, is_letter}
-use Rattle.sdc_model.specs.VerilogConstants.{is_base_letter, lower, number_kind}
-use Rattle.sdc_model.specs.VerilogTokens as grammar
-use Rattle.sdc_model.specs.VerilogWords.{word_kind}
+use Rattle.text_model.specs.Bytes.{is_digit, is_letter}
+use Rattle.netlist_model.specs.VerilogConstants.{is_base_letter, lower, number_kind}
+use Rattle.netlist_model.specs.VerilogTokens as grammar
+use Rattle.netlist_model.specs.VerilogWords.{word_kind}
 use Rattle.verilog_net.specs.declared.lexed.Lexed.{Lexed}
 use Rattle.verilog_net.specs.declared.runs.Run.TheVariants.{Word, Number, Digits}
 use Rattle.verilog_net.specs.Runs.{test_of}
 use Rattle.verilog_net.specs.Seen.{IsLexed, has_base_letter}
 
-same_lexed : (k j : VerilogToken) (t u : List ℕ) (b c : Option ℕ) (r s : List ℕ) → k ≡ j → t ≡ u → b ≡ c → r ≡ s → ◌≡◌ {A = grammar.Lexed} (record { kind = k; text = t; base = b; behind = r }) (record { kind = j; text = u; base = c; behind = s })
+same_lexed : (k j : VerilogToken) (t u : List ℕ) (b c : Option ℕ) (r s : List ℕ) → k ≡ j → t ≡ u → b ≡ c → r ≡ s → ◌≡◌ {A = grammar.Lexed} (record { kind = k; text = t; base = b; after = r }) (record { kind = j; text = u; base = c; after = s })
 same_lexed k j t u b c r s e f g h = cc
 
 -- ---- first bytes of a text
@@ -76,9 +76,9 @@ digits_lexed text digits at letter lexed less is len some fits kind_is same base
     (first_lexed text (drop at text) at at (prefix_len (test_of Digits) (drop at text)) (grammar.digits_kind letter) lexed refl (same ∙ is) (kind_is ∙ ap (grammar.digits_kind letter) (sym same)) base
     (next ∙ ap (λ (n : ℕ). at + n) len) (omega (arith, next, some)) (omega (arith, next, fits)))
 
--- right behind a backslash no character is cut
-pub behind_backslash : (text : List ℕ) (at : ℕ) → IsUtf8 text → at < length text → get_or text at 0 ≡ 92 → IsCharBoundary text (at + 1)
-behind_backslash text at utf8 within is = IsCharBoundary-after_ascii text at utf8 within (omega (arith, is))
+-- right after a backslash no character is cut
+pub after_backslash : (text : List ℕ) (at : ℕ) → IsUtf8 text → at < length text → get_or text at 0 ≡ 92 → IsCharBoundary text (at + 1)
+after_backslash text at utf8 within is = IsCharBoundary-after_ascii text at utf8 within (omega (arith, is))
 
 pub escaped_lexed : (text name : List ℕ) (at : ℕ) (lexed : Lexed) → at < length text
     → name ≡ take (prefix_len (λ b. not (grammar.is_blank b)) (drop (at + 1) text)) (drop (at + 1) text) → length name ≡ prefix_len (λ b. not (grammar.is_blank b)) (drop (at + 1) text) → at + 1 + length name ≤ length text
@@ -114,7 +114,7 @@ letter_small b h = grind (arith, nat_tests)
 pub base_ascii : (text : List ℕ) (at : ℕ) → has_base_letter text at ≡ true → get_or text at 0 < 128
 base_ascii text at h = letter_small (get_or text at 0) (has_letter text at h).1
 
-letter_token : (b : ℕ) (bs : List ℕ) → is_base_letter b ≡ true → ◌≡◌ {A = grammar.Lexed} (record { kind = kind.Base; text = b ∷ []; base = Some (lower b); behind = bs }) (grammar.base_token (b ∷ bs))
+letter_token : (b : ℕ) (bs : List ℕ) → is_base_letter b ≡ true → ◌≡◌ {A = grammar.Lexed} (record { kind = kind.Base; text = b ∷ []; base = Some (lower b); after = bs }) (grammar.base_token (b ∷ bs))
 letter_token b bs h = rw h refl
 
 pub base_lexed : (text : List ℕ) (at : ℕ) (lexed : Lexed) → has_base_letter text (at + 1) ≡ true
@@ -122,9 +122,9 @@ pub base_lexed : (text : List ℕ) (at : ℕ) (lexed : Lexed) → has_base_lette
     → IsLexed text at (grammar.base_token (drop (at + 1) text)) lexed
 base_lexed text at lexed h kind_is is base next =
     let has = has_letter text (at + 1) h in
-    let behind : drop lexed.next text ≡ drop (at + 1 + 1) text = ap (λ (i : ℕ). drop i text) (omega (arith, next)) in
+    let after : drop lexed.next text ≡ drop (at + 1 + 1) text = ap (λ (i : ℕ). drop i text) (omega (arith, next)) in
     record {
-      is = same_lexed lexed.kind kind.Base lexed.text.now (get_or text (at + 1) 0 ∷ []) lexed.base (Some (lower (get_or text (at + 1) 0))) (drop lexed.next text) (drop (at + 1 + 1) text) kind_is is base behind
+      is = same_lexed lexed.kind kind.Base lexed.text.now (get_or text (at + 1) 0 ∷ []) lexed.base (Some (lower (get_or text (at + 1) 0))) (drop lexed.next text) (drop (at + 1 + 1) text) kind_is is base after
           ∙ (letter_token (get_or text (at + 1) 0) (drop (at + 1 + 1) text) has.1 ∙ ap grammar.base_token (sym (drop_more text (at + 1) 0 has.0)));
       further = omega (arith, next);
       within = omega (arith, next, has.0);

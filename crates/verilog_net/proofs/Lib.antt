@@ -1,6 +1,6 @@
-mod BreakFacts
 mod ConstantFacts
 mod CutFacts
+mod ErrorFacts
 mod FaultFacts
 mod GapFacts
 mod KeywordFacts

@@ -2,10 +2,10 @@
 use Rattle.std.proofs.Common.{◌≡◌, ◌++◌, ◌∷◌, List, map}
 use Rattle.std.proofs.lemmas.List.{map-append}
 use Rattle.std.specs.List.{flat_map}
-use Rattle.sdc_model.specs.VerilogNets.{instance_from}
-use Rattle.sdc_model.specs.VerilogStatements as grammar
-use Rattle.sdc_model.specs.VerilogSyntax as syntax
-use Rattle.sdc_model.specs.VerilogTokens as lexical
+use Rattle.netlist_model.specs.VerilogNets.{instance_from}
+use Rattle.netlist_model.specs.VerilogStatements as grammar
+use Rattle.netlist_model.specs.VerilogSyntax as syntax
+use Rattle.netlist_model.specs.VerilogTokens as lexical
 use Rattle.verilog_net.specs.Links.{link_from}
 
 pub links_more : (all : List syntax.Declared) (part : List lexical.Token) (parts : List (List lexical.Token)) → map (link_from all) (flat_map grammar.named_one (part ∷ parts))

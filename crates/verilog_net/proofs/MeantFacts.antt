@@ -7,10 +7,10 @@ use Rattle.source_types.specs.declared.netlists.Instance.{Instance}
 use Rattle.source_types.specs.declared.netlists.Module.{Module}
 use Rattle.source_types.specs.declared.netlists.Port.{Port}
 use Rattle.source_types.specs.declared.netlists.Wire.{Wire}
-use Rattle.sdc_model.specs.VerilogNets as spec
-use Rattle.sdc_model.specs.VerilogStatements as grammar
-use Rattle.sdc_model.specs.VerilogSyntax as syntax
-use Rattle.sdc_model.specs.WellFormedNetlist.{net_of_port}
+use Rattle.netlist_model.specs.VerilogNets as spec
+use Rattle.netlist_model.specs.VerilogStatements as grammar
+use Rattle.netlist_model.specs.VerilogSyntax as syntax
+use Rattle.netlist_model.specs.WellFormedNetlist.{net_of_port}
 use Rattle.verilog_net.specs.declared.names.Named.{Named}
 use Rattle.verilog_net.specs.Modules.{written_seen}
 use Rattle.verilog_net.specs.Names.{named_modules}

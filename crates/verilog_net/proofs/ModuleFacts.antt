@@ -4,9 +4,9 @@ use Rattle.std.specs.Prelude.{if◌then◌else◌}
 use Rattle.std.proofs.lemmas.List.Elements.{All-from_recursion}
 use Rattle.std.specs.List.{All, AllByRecursion, before_first, flat_map, onto_first, prefix_len, slice_split}
 use Rattle.source_types.specs.declared.verilog_tokens.VerilogToken.TheVariants as kind
-use Rattle.sdc_model.specs.VerilogStatements as grammar
-use Rattle.sdc_model.specs.VerilogSyntax as syntax
-use Rattle.sdc_model.specs.VerilogTokens.{Token}
+use Rattle.netlist_model.specs.VerilogStatements as grammar
+use Rattle.netlist_model.specs.VerilogSyntax as syntax
+use Rattle.netlist_model.specs.VerilogTokens.{Token}
 use Rattle.verilog_net.specs.declared.names.Named.{Named}
 use Rattle.verilog_net.specs.Modules.{modules_from, written_seen}
 use Rattle.verilog_net.specs.Names.{IsNamed, IsTied, declarations_of}
@@ -53,10 +53,10 @@ none_named [] none = tt
 none_named (m ∷ ms) none = cc
 
 pub one_named : (found more : List Named) (m : Named) → AllByRecursion IsNamed found → more ≡ found ++ m ∷ [] → IsTied m.names → declarations_of m.names ≡ grammar.declarations (written_seen m.written) → AllByRecursion IsNamed more
-one_named found more m all is tied same = subst (λ (ms : List Named). AllByRecursion IsNamed ms) (sym is) (behind found all) where
-  behind : (ms : List Named) → AllByRecursion IsNamed ms → AllByRecursion IsNamed (ms ++ m ∷ [])
-  behind [] h = ((tied, same), tt)
-  behind (x ∷ xs) h = (h.0, behind xs h.1)
+one_named found more m all is tied same = subst (λ (ms : List Named). AllByRecursion IsNamed ms) (sym is) (after found all) where
+  after : (ms : List Named) → AllByRecursion IsNamed ms → AllByRecursion IsNamed (ms ++ m ∷ [])
+  after [] h = ((tied, same), tt)
+  after (x ∷ xs) h = (h.0, after xs h.1)
 
 pub all_named : (found : List Named) → AllByRecursion IsNamed found → All IsNamed found
 all_named found h = All-from_recursion IsNamed found h

@@ -4,7 +4,7 @@ use Rattle.std.proofs.lemmas.Map.Text.{hash_set_updates_text}
 use Rattle.std.specs.Str.{bytes_eq}
 use Rattle.std.specs.String.{string_bytes, string_eq}
 use Rattle.indexmap.specs.IndexSet.{IndexSet, UpdatesBy}
-use Rattle.sdc_model.specs.Words.{is_among, same_text}
+use Rattle.text_model.specs.Words.{is_among, same_text}
 use Rattle.verilog_net.specs.Contexts.{HasNames}
 
 either : (found among : Bool) → found ≡ among → (t : Bool) → cond t true found ≡ (t || among)

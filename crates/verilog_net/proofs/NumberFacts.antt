@@ -8,8 +8,8 @@ use Rattle.std.specs.List.{list_any}
 use Rattle.sdc_base.proofs.CaseFacts.{by_bool}
 use Rattle.source_types.specs.declared.verilog_tokens.VerilogToken.{VerilogToken}
 use Rattle.source_types.specs.declared.verilog_tokens.VerilogToken.TheVariants as kind
-use Rattle.sdc_model.specs.VerilogConstants as grammar
-use Rattle.sdc_model.specs.VerilogSyntax as syntax
+use Rattle.netlist_model.specs.VerilogConstants as grammar
+use Rattle.netlist_model.specs.VerilogSyntax as syntax
 use Rattle.verilog_net.specs.declared.tokens.Token.{Token}
 use Rattle.verilog_net.specs.Seen.{token_seen}
 use Rattle.verilog_net.specs.Syntax.{is_long, is_long_bound}
@@ -17,23 +17,23 @@ use Rattle.verilog_net.specs.Syntax.{is_long, is_long_bound}
 next_no_less : (n b : ℕ) → n ≤ grammar.next_number n b
 next_no_less n b = by_bool (λ t. n ≤ (if t then n else (n * 10) + (b - 48))) (b == 95) (λ is. omega arith) (λ is. omega arith)
 
-no_less : (n : ℕ) (digits : List ℕ) → n ≤ grammar.number_behind n digits
+no_less : (n : ℕ) (digits : List ℕ) → n ≤ grammar.number_after n digits
 no_less n [] = omega arith
 no_less n (b ∷ bs) =
     let first : n ≤ grammar.next_number n b = next_no_less n b in
-    let rest : grammar.next_number n b ≤ grammar.number_behind (grammar.next_number n b) bs = no_less (grammar.next_number n b) bs in
+    let rest : grammar.next_number n b ≤ grammar.number_after (grammar.next_number n b) bs = no_less (grammar.next_number n b) bs in
     omega (arith, first, rest)
 
 -- a number that is too large stays so
-pub too_large : (n : ℕ) (rest all : List ℕ) → 4294967295 < n → grammar.number_behind n rest ≡ grammar.number_of all → None ≡ (if nat_le (grammar.number_of all) 4294967295 then Some (grammar.number_of all) else None)
+pub too_large : (n : ℕ) (rest all : List ℕ) → 4294967295 < n → grammar.number_after n rest ≡ grammar.number_of all → None ≡ (if nat_le (grammar.number_of all) 4294967295 then Some (grammar.number_of all) else None)
 too_large n rest all large is =
-    let more : n ≤ grammar.number_behind n rest = no_less n rest in
+    let more : n ≤ grammar.number_after n rest = no_less n rest in
     let test : nat_le (grammar.number_of all) 4294967295 ≡ false = grind (arith, nat_tests) in
     rw test refl
 
-pub too_large_step : (number n : ℕ) (digits : List ℕ) (i : ℕ) → i < length digits → grammar.number_behind number (drop i digits) ≡ grammar.number_of digits → n ≡ grammar.next_number number (get_or digits i 0) → 4294967295 < n → None ≡ (if nat_le (grammar.number_of digits) 4294967295 then Some (grammar.number_of digits) else None)
+pub too_large_step : (number n : ℕ) (digits : List ℕ) (i : ℕ) → i < length digits → grammar.number_after number (drop i digits) ≡ grammar.number_of digits → n ≡ grammar.next_number number (get_or digits i 0) → 4294967295 < n → None ≡ (if nat_le (grammar.number_of digits) 4294967295 then Some (grammar.number_of digits) else None)
 too_large_step number n digits i inside so_far is large =
-    too_large n (drop (i + 1) digits) digits large (ap (λ (m : ℕ). grammar.number_behind m (drop (i + 1) digits)) is ∙ (sym (at_drop_more (grammar.number_behind number) digits i 0 inside) ∙ so_far))
+    too_large n (drop (i + 1) digits) digits large (ap (λ (m : ℕ). grammar.number_after m (drop (i + 1) digits)) is ∙ (sym (at_drop_more (grammar.number_after number) digits i 0 inside) ∙ so_far))
 
 pub small : (n : ℕ) (all : List ℕ) → n ≤ 4294967295 → n ≡ grammar.number_of all → Some n ≡ (if nat_le (grammar.number_of all) 4294967295 then Some (grammar.number_of all) else None)
 small n all few is =
@@ -69,6 +69,12 @@ some_kind digits n k is all =
 
 pub long_number : (token : Token) → None ≡ (if nat_le (grammar.number_of token.text.now) 4294967295 then Some (grammar.number_of token.text.now) else None) → is_long token ≡ true
 long_number token is = ap not (found_none (grammar.number_of token.text.now) (nat_le (grammar.number_of token.text.now) 4294967295) is)
+
+-- a number that passes 32 bits is no size of a constant
+pub long_size : (token : Token) → is_long token ≡ true → 64 < grammar.number_of token.text.now
+long_size token long =
+    by_bool (λ t. not t ≡ true → 64 < grammar.number_of token.text.now) (nat_le (grammar.number_of token.text.now) 4294967295)
+    (λ few is. cc) (λ many is. grind (arith, nat_tests)) long
 
 pub long_bound_at : (tokens : List Token) (i : ℕ) (d : Token) → i < length tokens → syntax.is_bound (token_seen (get_or tokens i d)) ≡ true → is_long (get_or tokens i d) ≡ true → list_any is_long_bound tokens ≡ true
 long_bound_at tokens i d inside bound long =

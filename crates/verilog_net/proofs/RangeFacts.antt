@@ -5,8 +5,8 @@ use Rattle.std.proofs.lemmas.Bool.Decides.{nat_tests}
 use Rattle.sdc_base.proofs.CaseFacts.{by_bool}
 use Rattle.source_types.specs.declared.netlists.Bit.{Bit}
 use Rattle.source_types.specs.declared.netlists.Range.{Range}
-use Rattle.sdc_model.specs.Ranges.{falling, from_to, indices, rising}
-use Rattle.sdc_model.specs.VerilogNets.{net_bit}
+use Rattle.netlist_model.specs.Ranges.{falling, from_to, indices, rising}
+use Rattle.netlist_model.specs.VerilogNets.{net_bit}
 
 upwards : (i r : ℕ) → i ≤ r → from_to i r ≡ rising i ((r - i) + 1)
 upwards i r up = let test : nat_le i r ≡ true = grind (arith, nat_tests) in rw test refl

@@ -7,10 +7,10 @@ use Rattle.sdc_base.specs.declared.memory.Stop.TheVariants as stop
 use Rattle.sdc_base.specs.Gives.{Gives, Meets}
 use Rattle.source_types.specs.declared.fault_kinds.VerilogKind.{VerilogKind}
 use Rattle.source_types.specs.declared.netlists.Module.{Module}
-use Rattle.sdc_model.specs.Verilog as spec
-use Rattle.sdc_model.specs.VerilogNets.{meant_module}
-use Rattle.sdc_model.specs.VerilogStatements.{Written, modules_of}
-use Rattle.sdc_model.specs.VerilogTokens.{Token}
+use Rattle.netlist_model.specs.Verilog as spec
+use Rattle.netlist_model.specs.VerilogNets.{meant_module}
+use Rattle.netlist_model.specs.VerilogStatements.{Written, modules_of}
+use Rattle.netlist_model.specs.VerilogTokens.{Token}
 use Rattle.verilog_net.specs.declared.faults.Wrong.{Wrong}
 use Rattle.verilog_net.specs.Faults.{wrong_seen}
 use Rattle.verilog_net.specs.Recognition.{AreNetlist}
@@ -30,10 +30,10 @@ modules_meant modules found is same = ap (meant_by modules) (sym is) ∙ ap (λ 
 reads : (bytes : List ℕ) (tokens : List Token) (outcome : Result (List Module) (At VerilogKind)) → AreNetlist bytes tokens → spec.meant (modules_of tokens) ≡ outcome → spec.ReadsVerilog bytes outcome
 reads bytes tokens outcome netlist is = inl (record {
   tokens = tokens;
-  break = None;
+  error = None;
   text = netlist.text;
   stand = netlist.stand;
-  breaks = netlist.whole;
+  error_is = netlist.whole;
   is = sym is;
 })
 

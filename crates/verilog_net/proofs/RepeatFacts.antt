@@ -1,4 +1,4 @@
--- Names that stand behind the same name, name by name.
+-- Names that stand after the same name, name by name.
 use Rattle.std.proofs.Common.{◌≡◌, ◌∙◌, ◌≤◌, ◌++◌, ◌∷◌, ℕ, Bool, true, false, cond, List, [], Option, None, Some, String, append_assoc, drop, length, refl, sym, ap}
 use Rattle.std.specs.Prelude.{if◌then◌else◌}
 use Rattle.std.proofs.lemmas.List.{append-nil, drop_all}
@@ -11,11 +11,11 @@ use Rattle.std.specs.List.{filter}
 use Rattle.std.specs.Option.{option_map}
 use Rattle.std.specs.Str.{bytes_eq}
 use Rattle.std.specs.String.{string_bytes, string_eq}
-use Rattle.sdc_model.specs.Verilog as spec
-use Rattle.sdc_model.specs.VerilogNets.{is_of}
-use Rattle.sdc_model.specs.VerilogSyntax as syntax
-use Rattle.sdc_model.specs.Words.{is_among, same_text}
-use Rattle.source_types.specs.declared.library_cells.Direction.TheVariants.{Input}
+use Rattle.netlist_model.specs.Verilog as spec
+use Rattle.netlist_model.specs.VerilogNets.{is_of}
+use Rattle.netlist_model.specs.VerilogSyntax as syntax
+use Rattle.text_model.specs.Words.{is_among, same_text}
+use Rattle.pin_types.specs.declared.library_cells.Direction.TheVariants.{Input}
 use Rattle.verilog_net.proofs.KindFacts.{no_token}
 use Rattle.verilog_net.specs.declared.declarations.Declared.{Declared}
 use Rattle.verilog_net.specs.declared.declarations.Role.TheVariants.{Port}
@@ -41,15 +41,15 @@ none_repeated before found all has none = record {
   same = ap (λ (ts : List Token). tokens_seen ts ++ spec.repeated [] (tokens_seen all)) none;
 }
 
-pub one_repeated : {A S : Type 0} (before after : IndexSet (String A) S) (found more rest behind all : List Token) (name : Token) → RepeatedSoFar before found rest all → rest ≡ name ∷ behind
+pub one_repeated : {A S : Type 0} (before after : IndexSet (String A) S) (found more rest others all : List Token) (name : Token) → RepeatedSoFar before found rest all → rest ≡ name ∷ others
     → ((listed : List (List ℕ)) → HasNames before listed → tokens_seen more ≡ tokens_seen found ++ (if is_among listed name.text.now then token_seen name ∷ [] else []))
-    → ((listed : List (List ℕ)) → HasNames before listed → HasNames after (name.text.now ∷ listed)) → RepeatedSoFar after more behind all
-one_repeated before after found more rest behind all name so_far here found_is names_are = record {
+    → ((listed : List (List ℕ)) → HasNames before listed → HasNames after (name.text.now ∷ listed)) → RepeatedSoFar after more others all
+one_repeated before after found more rest others all name so_far here found_is names_are = record {
   listed = name.text.now ∷ so_far.listed;
   has = names_are so_far.listed so_far.has;
   same =
-      ap (λ ts. ts ++ spec.repeated (name.text.now ∷ so_far.listed) (tokens_seen behind)) (found_is so_far.listed so_far.has)
-      ∙ (append_assoc (tokens_seen found) (if is_among so_far.listed name.text.now then token_seen name ∷ [] else []) (spec.repeated (name.text.now ∷ so_far.listed) (tokens_seen behind))
+      ap (λ ts. ts ++ spec.repeated (name.text.now ∷ so_far.listed) (tokens_seen others)) (found_is so_far.listed so_far.has)
+      ∙ (append_assoc (tokens_seen found) (if is_among so_far.listed name.text.now then token_seen name ∷ [] else []) (spec.repeated (name.text.now ∷ so_far.listed) (tokens_seen others))
       ∙ (ap (λ (ts : List Token). tokens_seen found ++ spec.repeated so_far.listed (tokens_seen ts)) (sym here) ∙ so_far.same));
 }
 
@@ -123,15 +123,15 @@ no_seconds known found all has none = record {
   same = ap (λ (ts : List Token). tokens_seen ts ++ spec.seconds [] (declareds_seen all)) none;
 }
 
-pub one_second : {A S : Type 0} (known after : IndexMap (String A) Earlier S) (found more : List Token) (rest behind all : List Declared) (d : Declared) → SecondsSoFar known found rest all → rest ≡ d ∷ behind
+pub one_second : {A S : Type 0} (known after : IndexMap (String A) Earlier S) (found more : List Token) (rest others all : List Declared) (d : Declared) → SecondsSoFar known found rest all → rest ≡ d ∷ others
     → ((before : List syntax.Declared) → HasEarlier known before → tokens_seen more ≡ tokens_seen found ++ (if spec.is_second (filter (is_of d.name.text.now) before) (declared_seen d) then token_seen d.name ∷ [] else []))
-    → ((before : List syntax.Declared) → HasEarlier known before → HasEarlier after (before ++ declared_seen d ∷ [])) → SecondsSoFar after more behind all
-one_second known after found more rest behind all d so_far here found_is known_are = record {
+    → ((before : List syntax.Declared) → HasEarlier known before → HasEarlier after (before ++ declared_seen d ∷ [])) → SecondsSoFar after more others all
+one_second known after found more rest others all d so_far here found_is known_are = record {
   before = so_far.before ++ declared_seen d ∷ [];
   has = known_are so_far.before so_far.has;
   same =
-      ap (λ ts. ts ++ spec.seconds (so_far.before ++ declared_seen d ∷ []) (declareds_seen behind)) (found_is so_far.before so_far.has)
-      ∙ (append_assoc (tokens_seen found) (if spec.is_second (filter (is_of d.name.text.now) so_far.before) (declared_seen d) then token_seen d.name ∷ [] else []) (spec.seconds (so_far.before ++ declared_seen d ∷ []) (declareds_seen behind))
+      ap (λ ts. ts ++ spec.seconds (so_far.before ++ declared_seen d ∷ []) (declareds_seen others)) (found_is so_far.before so_far.has)
+      ∙ (append_assoc (tokens_seen found) (if spec.is_second (filter (is_of d.name.text.now) so_far.before) (declared_seen d) then token_seen d.name ∷ [] else []) (spec.seconds (so_far.before ++ declared_seen d ∷ []) (declareds_seen others))
       ∙ (ap (λ (ds : List Declared). tokens_seen found ++ spec.seconds so_far.before (declareds_seen ds)) (sym here) ∙ so_far.same));
 }
 

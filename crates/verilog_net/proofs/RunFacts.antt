@@ -9,8 +9,8 @@ use Rattle.std.proofs.lemmas.List.Folds.{length-prefix_len}
 use Rattle.std.proofs.lemmas.List.Sums.{prefix_len-drop_yes, prefix_len-drop_no, prefix_len-drop_all}
 use Rattle.std.proofs.lemmas.Str.{IsCharBoundary-after_ascii, IsCharBoundary-before_ascii, IsCharBoundary-end}
 use Rattle.sdc_base.proofs.CaseFacts.{by_bool}
-use Rattle.sdc_model.specs.VerilogConstants.{is_digits_byte, is_number_byte}
-use Rattle.sdc_model.specs.VerilogTokens.{is_blank, is_word_byte}
+use Rattle.netlist_model.specs.VerilogConstants.{is_digits_byte, is_number_byte}
+use Rattle.netlist_model.specs.VerilogTokens.{is_blank, is_word_byte}
 use Rattle.verilog_net.specs.declared.runs.Run.{Run}
 use Rattle.verilog_net.specs.declared.runs.Run.TheVariants.{Word, Number, Digits}
 use Rattle.verilog_net.specs.Runs.{test_of}

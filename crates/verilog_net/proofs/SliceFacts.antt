@@ -5,8 +5,8 @@ use Rattle.std.proofs.lemmas.List.Recursion.{is_position_or_len}
 use Rattle.std.specs.Prelude.{◌||◌}
 use Rattle.std.specs.List.{after_first, before_first, list_any, position_or_len, prefix_len}
 use Rattle.source_types.specs.declared.verilog_tokens.VerilogToken.{VerilogToken}
-use Rattle.sdc_model.specs.VerilogSyntax as grammar
-use Rattle.sdc_model.specs.VerilogTokens as lexical
+use Rattle.netlist_model.specs.VerilogSyntax as grammar
+use Rattle.netlist_model.specs.VerilogTokens as lexical
 use Rattle.verilog_net.specs.declared.tokens.Token.{Token}
 use Rattle.verilog_net.specs.Seen.{token_seen, tokens_seen}
 use Rattle.verilog_net.specs.Syntax.{directions_len, is_direction_seen, others_len}
@@ -34,16 +34,16 @@ direction_taken n xs taken count is = front_taken grammar.is_direction n xs take
 pub before_taken : (k : VerilogToken) (n : ℕ) (xs taken : List Token) → n ≡ others_len k xs → taken ≡ take n xs → tokens_seen taken ≡ before_first (grammar.is k) (tokens_seen xs)
 before_taken k n xs taken count is = front_taken (grammar.is k) n xs taken count is
 
--- what stands behind the first token of a kind
-behind : (k : VerilogToken) (n : ℕ) (xs : List Token) → n ≡ others_len k xs → tokens_seen (drop (n + 1) xs) ≡ after_first (grammar.is k) (tokens_seen xs)
-behind k n xs count = sym (drop-map token_seen (n + 1) xs) ∙ ap (λ m. drop (m + 1) (tokens_seen xs)) (count ∙ len_is (grammar.is k) xs)
+-- what stands after the first token of a kind
+after : (k : VerilogToken) (n : ℕ) (xs : List Token) → n ≡ others_len k xs → tokens_seen (drop (n + 1) xs) ≡ after_first (grammar.is k) (tokens_seen xs)
+after k n xs count = sym (drop-map token_seen (n + 1) xs) ∙ ap (λ m. drop (m + 1) (tokens_seen xs)) (count ∙ len_is (grammar.is k) xs)
 
 pub after_taken : (k : VerilogToken) (n : ℕ) (xs taken : List Token) → n ≡ others_len k xs → taken ≡ take (length xs - (n + 1)) (drop (n + 1) xs) → tokens_seen taken ≡ after_first (grammar.is k) (tokens_seen xs)
-after_taken k n xs taken count is = ap tokens_seen (is ∙ take_rest xs (n + 1)) ∙ behind k n xs count
+after_taken k n xs taken count is = ap tokens_seen (is ∙ take_rest xs (n + 1)) ∙ after k n xs count
 
 pub after_none : (k : VerilogToken) (n : ℕ) (xs taken : List Token) → n ≡ others_len k xs → n ≡ length xs → taken ≡ take (length xs - n) (drop n xs) → tokens_seen taken ≡ after_first (grammar.is k) (tokens_seen xs)
 after_none k n xs taken count all is =
-    ap tokens_seen (is ∙ (take_rest xs n ∙ (drop_all n xs (omega (arith, all)) ∙ sym (drop_all (n + 1) xs (omega (arith, all)))))) ∙ behind k n xs count
+    ap tokens_seen (is ∙ (take_rest xs n ∙ (drop_all n xs (omega (arith, all)) ∙ sym (drop_all (n + 1) xs (omega (arith, all)))))) ∙ after k n xs count
 
 pub inner_taken : (n : ℕ) (xs taken : List Token) → n ≡ length xs - 1 → taken ≡ take n xs → tokens_seen taken ≡ take (length (tokens_seen xs) - 1) (tokens_seen xs)
 inner_taken n xs taken count is =

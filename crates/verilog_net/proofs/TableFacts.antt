@@ -10,9 +10,9 @@ use Rattle.std.specs.Option.{is_some, option_map, option_or}
 use Rattle.std.specs.Str.{bytes_eq}
 use Rattle.std.specs.String.{string_bytes, string_eq}
 use Rattle.sdc_base.proofs.CaseFacts.{by_bool}
-use Rattle.sdc_model.specs.VerilogNets.{declaration_of, is_of, is_port, is_port_of}
-use Rattle.sdc_model.specs.VerilogSyntax as grammar
-use Rattle.sdc_model.specs.Words.{same_text}
+use Rattle.netlist_model.specs.VerilogNets.{declaration_of, is_of, is_port, is_port_of}
+use Rattle.netlist_model.specs.VerilogSyntax as grammar
+use Rattle.text_model.specs.Words.{same_text}
 use Rattle.verilog_net.specs.declared.declarations.Declared.{Declared}
 use Rattle.verilog_net.specs.Names.{better, entry_seen, ports_only, with_entries, with_entry}
 use Rattle.verilog_net.specs.Syntax.{declared_seen, declareds_seen}

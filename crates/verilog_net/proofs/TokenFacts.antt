@@ -5,11 +5,11 @@ use Rattle.std.proofs.lemmas.Option.{slice_get-map}
 use Rattle.std.specs.Option.{option_map}
 use Rattle.source_types.specs.declared.verilog_tokens.VerilogToken.{VerilogToken}
 use Rattle.source_types.specs.declared.verilog_tokens.VerilogToken.TheVariants as kind
-use Rattle.sdc_model.specs.Bytes.{before, line_after}
-use Rattle.sdc_model.specs.LastLine.{last_line_of}
-use Rattle.sdc_model.specs.Row.{Front, Row, found}
-use Rattle.sdc_model.specs.Verilog.{line_of}
-use Rattle.sdc_model.specs.VerilogTokens as grammar
+use Rattle.text_model.specs.Bytes.{before, line_after}
+use Rattle.text_model.specs.LastLine.{last_line_of}
+use Rattle.text_model.specs.Row.{Front, Row, found}
+use Rattle.netlist_model.specs.Verilog.{line_of}
+use Rattle.netlist_model.specs.VerilogTokens as grammar
 use Rattle.verilog_net.specs.declared.lexed.Lexed.{Lexed}
 use Rattle.verilog_net.specs.declared.tokens.Place.{Place}
 use Rattle.verilog_net.specs.declared.tokens.Token.{Token}
@@ -32,11 +32,11 @@ between text from to forward within =
     let len : length (drop from text) - length (drop to text) ≡ to - from = omega (arith, forward, within, length-drop from text, length-drop to text) in
     ap (λ (n : ℕ). take n (drop from text)) len
 
--- the place of the text from a place on, behind another place
-moved : (text : List ℕ) (from to line at behind : ℕ) (base other : Option ℕ) → from ≤ to → to ≤ length text → at ≡ from → behind ≡ line_after (take (to - from) (drop from text)) line
-    → ◌≡◌ {A = grammar.Place} (record { text = drop to text; at = to; line = behind; base = base }) (grammar.place_of (record { text = drop from text; at = at; line = line; base = other }) (drop to text) base)
-moved text from to line at behind base other forward within same is =
-    same_place (drop to text) (drop to text) to (at + (length (drop from text) - length (drop to text))) behind (line_after (before (drop from text) (drop to text)) line) base base refl
+-- the place of the text from a place on, after another place
+moved : (text : List ℕ) (from to line at after : ℕ) (base other : Option ℕ) → from ≤ to → to ≤ length text → at ≡ from → after ≡ line_after (take (to - from) (drop from text)) line
+    → ◌≡◌ {A = grammar.Place} (record { text = drop to text; at = to; line = after; base = base }) (grammar.place_of (record { text = drop from text; at = at; line = line; base = other }) (drop to text) base)
+moved text from to line at after base other forward within same is =
+    same_place (drop to text) (drop to text) to (at + (length (drop from text) - length (drop to text))) after (line_after (before (drop from text) (drop to text)) line) base base refl
     (omega (arith, forward, within, same, length-drop from text, length-drop to text))
     (is ∙ ap (λ (t : List ℕ). line_after t line) (sym (between text from to forward within)))
     refl
@@ -53,80 +53,80 @@ abbrev pub ThePlace : Type 0
 ThePlace = grammar.Place
 
 -- a token that was read at a place
-pub token_front : (text : List ℕ) (place behind : Place) (begin line : ℕ) (token : Token) (lexed : Lexed) → place.at ≤ begin → begin < length text
+pub token_front : (text : List ℕ) (place after : Place) (begin line : ℕ) (token : Token) (lexed : Lexed) → place.at ≤ begin → begin < length text
     → line ≡ line_after (take (begin - place.at) (drop place.at text)) place.line
-    → IsLexed text begin (grammar.token_behind place.base (get_or text begin 0) (drop (begin + 1) text)) lexed
+    → IsLexed text begin (grammar.token_after place.base (get_or text begin 0) (drop (begin + 1) text)) lexed
     → token_seen token ≡ record { at = begin; line = line; kind = lexed.kind; text = lexed.text.now }
-    → behind.at ≡ lexed.next → behind.line ≡ line_after (take (lexed.next - begin) (drop begin text)) line → behind.base ≡ lexed.base
-    → front_seen text (Some (token, behind)) ≡ grammar.front_behind (place_seen text place) (Some (drop begin text))
-token_front text place behind begin line token lexed forward within first is seen at then base =
+    → after.at ≡ lexed.next → after.line ≡ line_after (take (lexed.next - begin) (drop begin text)) line → after.base ≡ lexed.base
+    → front_seen text (Some (token, after)) ≡ grammar.front_after (place_seen text place) (Some (drop begin text))
+token_front text place after begin line token lexed forward within first is seen at then base =
     let head : drop begin text ≡ get_or text begin 0 ∷ drop (begin + 1) text = drop_more text begin 0 within in
     let further : begin ≤ lexed.next = omega (arith, is.further) in
     let here : ◌≡◌ {A = ThePlace} (record { text = drop begin text; at = begin; line = line; base = place.base }) (grammar.place_of (place_seen text place) (drop begin text) place.base) =
     moved text place.at begin place.line place.at line place.base place.base forward (omega (arith, within)) refl first in
-    let next : ◌≡◌ {A = ThePlace} (record { text = drop lexed.next text; at = lexed.next; line = behind.line; base = lexed.base }) (grammar.place_of (record { text = drop begin text; at = begin; line = line; base = place.base }) (drop lexed.next text) lexed.base) =
-    moved text begin lexed.next line begin behind.line lexed.base place.base further is.within refl then in
-    let told : place_seen text behind ≡ record { text = drop lexed.next text; at = lexed.next; line = behind.line; base = lexed.base } =
-    same_place (drop behind.at text) (drop lexed.next text) behind.at lexed.next behind.line behind.line behind.base lexed.base (ap (λ (i : ℕ). drop i text) at) at refl base in
-    same_front (token_seen token) (record { at = begin; line = line; kind = lexed.kind; text = lexed.text.now }) (place_seen text behind) (grammar.place_of (record { text = drop begin text; at = begin; line = line; base = place.base }) (drop lexed.next text) lexed.base) seen (told ∙ next)
-    ∙ (as_lexed (record { text = drop begin text; at = begin; line = line; base = place.base }) text lexed (grammar.token_behind place.base (get_or text begin 0) (drop (begin + 1) text)) is.is
-    ∙ (ap (λ (p : ThePlace). grammar.token_here p (grammar.token_behind place.base (get_or text begin 0) (drop (begin + 1) text))) here
-    ∙ (ap (λ (t : List ℕ). grammar.token_here (grammar.place_of (place_seen text place) t place.base) (grammar.token_behind place.base (get_or text begin 0) (drop (begin + 1) text))) head
-    ∙ sym (ap (λ (t : List ℕ). grammar.front_behind (place_seen text place) (Some t)) head)))) where
-      as_lexed : (p : ThePlace) (text : List ℕ) (lexed : Lexed) (wanted : grammar.Lexed) → record { kind = lexed.kind; text = lexed.text.now; base = lexed.base; behind = drop lexed.next text } ≡ wanted
+    let next : ◌≡◌ {A = ThePlace} (record { text = drop lexed.next text; at = lexed.next; line = after.line; base = lexed.base }) (grammar.place_of (record { text = drop begin text; at = begin; line = line; base = place.base }) (drop lexed.next text) lexed.base) =
+    moved text begin lexed.next line begin after.line lexed.base place.base further is.within refl then in
+    let told : place_seen text after ≡ record { text = drop lexed.next text; at = lexed.next; line = after.line; base = lexed.base } =
+    same_place (drop after.at text) (drop lexed.next text) after.at lexed.next after.line after.line after.base lexed.base (ap (λ (i : ℕ). drop i text) at) at refl base in
+    same_front (token_seen token) (record { at = begin; line = line; kind = lexed.kind; text = lexed.text.now }) (place_seen text after) (grammar.place_of (record { text = drop begin text; at = begin; line = line; base = place.base }) (drop lexed.next text) lexed.base) seen (told ∙ next)
+    ∙ (as_lexed (record { text = drop begin text; at = begin; line = line; base = place.base }) text lexed (grammar.token_after place.base (get_or text begin 0) (drop (begin + 1) text)) is.is
+    ∙ (ap (λ (p : ThePlace). grammar.token_here p (grammar.token_after place.base (get_or text begin 0) (drop (begin + 1) text))) here
+    ∙ (ap (λ (t : List ℕ). grammar.token_here (grammar.place_of (place_seen text place) t place.base) (grammar.token_after place.base (get_or text begin 0) (drop (begin + 1) text))) head
+    ∙ sym (ap (λ (t : List ℕ). grammar.front_after (place_seen text place) (Some t)) head)))) where
+      as_lexed : (p : ThePlace) (text : List ℕ) (lexed : Lexed) (wanted : grammar.Lexed) → record { kind = lexed.kind; text = lexed.text.now; base = lexed.base; after = drop lexed.next text } ≡ wanted
           → ◌≡◌ {A = Front grammar.Token grammar.Place (Unit {0})} (found (record { at = p.at; line = p.line; kind = lexed.kind; text = lexed.text.now }) (grammar.place_of p (drop lexed.next text) lexed.base)) (grammar.token_here p wanted)
       as_lexed p text lexed wanted e = ap (grammar.token_here p) e
 
 -- a comment or an attribute that has no end
-pub unclosed_front : (text : List ℕ) (place behind : Place) (token : Token) (line : ℕ) → place.at < length text
+pub unclosed_front : (text : List ℕ) (place after : Place) (token : Token) (line : ℕ) → place.at < length text
     → token_seen token ≡ record { at = place.at; line = line; kind = kind.Other; text = [] }
     → line ≡ line_after (take (length text - 1 - place.at) (drop place.at text)) place.line
-    → behind.at ≡ length text → behind.line ≡ line_after (take (length text - place.at) (drop place.at text)) place.line → behind.base ≡ None
-    → front_seen text (Some (token, behind)) ≡ grammar.unclosed (place_seen text place)
-unclosed_front text place behind token line within seen last at then base =
+    → after.at ≡ length text → after.line ≡ line_after (take (length text - place.at) (drop place.at text)) place.line → after.base ≡ None
+    → front_seen text (Some (token, after)) ≡ grammar.unclosed (place_seen text place)
+unclosed_front text place after token line within seen last at then base =
     let end : drop (length text) text ≡ [] = drop_all (length text) text (omega arith) in
     let len : length (drop place.at text) - 1 ≡ length text - 1 - place.at = omega (arith, within, length-drop place.at text) in
     let same : line ≡ last_line_of (drop place.at text) place.line = last ∙ ap (λ (n : ℕ). line_after (take n (drop place.at text)) place.line) (sym len) in
-    let told : place_seen text behind ≡ record { text = drop (length text) text; at = length text; line = behind.line; base = None } =
-    same_place (drop behind.at text) (drop (length text) text) behind.at (length text) behind.line behind.line behind.base None (ap (λ (i : ℕ). drop i text) at) at refl base in
-    let next : ◌≡◌ {A = ThePlace} (record { text = drop (length text) text; at = length text; line = behind.line; base = None }) (grammar.place_of (place_seen text place) (drop (length text) text) None) =
-    moved text place.at (length text) place.line place.at behind.line None place.base (omega (arith, within)) (omega arith) refl then in
-    let last_place : place_seen text behind ≡ grammar.place_of (place_seen text place) [] None =
+    let told : place_seen text after ≡ record { text = drop (length text) text; at = length text; line = after.line; base = None } =
+    same_place (drop after.at text) (drop (length text) text) after.at (length text) after.line after.line after.base None (ap (λ (i : ℕ). drop i text) at) at refl base in
+    let next : ◌≡◌ {A = ThePlace} (record { text = drop (length text) text; at = length text; line = after.line; base = None }) (grammar.place_of (place_seen text place) (drop (length text) text) None) =
+    moved text place.at (length text) place.line place.at after.line None place.base (omega (arith, within)) (omega arith) refl then in
+    let last_place : place_seen text after ≡ grammar.place_of (place_seen text place) [] None =
     told ∙ (next ∙ ap (λ (t : List ℕ). grammar.place_of (place_seen text place) t None) end) in
     let last_token : token_seen token ≡ record { at = place.at; line = last_line_of (drop place.at text) place.line; kind = kind.Other; text = [] } =
     seen ∙ same_token place.at place.at line (last_line_of (drop place.at text) place.line) kind.Other kind.Other [] [] refl same refl refl in
-    same_front (token_seen token) (record { at = place.at; line = last_line_of (drop place.at text) place.line; kind = kind.Other; text = [] }) (place_seen text behind) (grammar.place_of (place_seen text place) [] None) last_token last_place
+    same_front (token_seen token) (record { at = place.at; line = last_line_of (drop place.at text) place.line; kind = kind.Other; text = [] }) (place_seen text after) (grammar.place_of (place_seen text place) [] None) last_token last_place
 
 -- ---- what stands at a place
 
-front_is : (p : grammar.Place) (rest : Option (List ℕ)) → rest ≡ grammar.behind_gap grammar.between p.text → grammar.front_behind p rest ≡ grammar.token_at p
+front_is : (p : grammar.Place) (rest : Option (List ℕ)) → rest ≡ grammar.after_gap grammar.between p.text → grammar.front_after p rest ≡ grammar.token_at p
 unfolding grammar.token_at
-front_is p rest e = ap (grammar.front_behind p) e
+front_is p rest e = ap (grammar.front_after p) e
 
-pub no_front : (text : List ℕ) (place : Place) (begin : ℕ) → rest_seen text (Some begin) ≡ grammar.behind_gap grammar.between (drop place.at text) → begin ≡ length text → front_seen text None ≡ grammar.token_at (place_seen text place)
+pub no_front : (text : List ℕ) (place : Place) (begin : ℕ) → rest_seen text (Some begin) ≡ grammar.after_gap grammar.between (drop place.at text) → begin ≡ length text → front_seen text None ≡ grammar.token_at (place_seen text place)
 no_front text place begin gap end =
-    ap (λ (t : List ℕ). grammar.front_behind (place_seen text place) (Some t)) (sym (drop_all begin text (omega (arith, end))))
+    ap (λ (t : List ℕ). grammar.front_after (place_seen text place) (Some t)) (sym (drop_all begin text (omega (arith, end))))
     ∙ front_is (place_seen text place) (Some (drop begin text)) gap
 
-pub found_front : (text : List ℕ) (place : Place) (begin : ℕ) (step : Token × Place) → rest_seen text (Some begin) ≡ grammar.behind_gap grammar.between (drop place.at text)
-    → front_seen text (Some step) ≡ grammar.front_behind (place_seen text place) (Some (drop begin text)) → front_seen text (Some step) ≡ grammar.token_at (place_seen text place)
+pub found_front : (text : List ℕ) (place : Place) (begin : ℕ) (step : Token × Place) → rest_seen text (Some begin) ≡ grammar.after_gap grammar.between (drop place.at text)
+    → front_seen text (Some step) ≡ grammar.front_after (place_seen text place) (Some (drop begin text)) → front_seen text (Some step) ≡ grammar.token_at (place_seen text place)
 found_front text place begin step gap is = is ∙ front_is (place_seen text place) (Some (drop begin text)) gap
 
-pub unclosed_found : (text : List ℕ) (place : Place) (step : Token × Place) → rest_seen text None ≡ grammar.behind_gap grammar.between (drop place.at text)
+pub unclosed_found : (text : List ℕ) (place : Place) (step : Token × Place) → rest_seen text None ≡ grammar.after_gap grammar.between (drop place.at text)
     → front_seen text (Some step) ≡ grammar.unclosed (place_seen text place) → front_seen text (Some step) ≡ grammar.token_at (place_seen text place)
 unclosed_found text place step gap is = is ∙ front_is (place_seen text place) None gap
 
 some_none : {A : Type 0} (x : A) → ◌≡◌ {A = Option A} None (Some x) → ⊥
 some_none x h = cc
 
-no_gap : grammar.behind_gap grammar.between [] ≡ Some []
-unfolding grammar.behind_gap
+no_gap : grammar.after_gap grammar.between [] ≡ Some []
+unfolding grammar.after_gap
 no_gap = refl
 
-pub unclosed_within : (text : List ℕ) (place : Place) → place.at ≤ length text → rest_seen text None ≡ grammar.behind_gap grammar.between (drop place.at text) → place.at < length text
+pub unclosed_within : (text : List ℕ) (place : Place) → place.at ≤ length text → rest_seen text None ≡ grammar.after_gap grammar.between (drop place.at text) → place.at < length text
 unclosed_within text place within gap = has (drop place.at text) refl where
   has : (rest : List ℕ) → drop place.at text ≡ rest → place.at < length text
-  has [] e = absurd (some_none [] (gap ∙ (ap (grammar.behind_gap grammar.between) e ∙ no_gap)))
+  has [] e = absurd (some_none [] (gap ∙ (ap (grammar.after_gap grammar.between) e ∙ no_gap)))
   has (b ∷ bs) e = omega (arith, ap length e, length-drop place.at text)
 
 -- ---- tokens in a row
@@ -135,7 +135,7 @@ pub append_none : {A : Type 0} (xs : List A) → xs ++ [] ≡ xs
 append_none [] = refl
 append_none (x ∷ xs) = ap (λ ys. x ∷ ys) (append_none xs)
 
--- the tokens so far, and that whatever goes on from a place goes on behind them
+-- the tokens so far, and that whatever goes on from a place goes on after them
 pub record ReadSoFar (text : List ℕ) (tokens : List Token) (place : Place) : Type 0 where
   pub within : place.at ≤ length text
   pub goes : (more : List grammar.Token) → Row (λ p front. grammar.token_at p ≡ front) more (place_seen text place) tt

@@ -10,13 +10,13 @@ use Rattle.std.specs.Option.{is_some, option_to_list}
 use Rattle.sdc_base.proofs.CaseFacts.{by_bool}
 use Rattle.source_types.specs.declared.netlists.Bit.TheVariants as bits
 use Rattle.source_types.specs.declared.netlists.Range.{Range}
-use Rattle.sdc_model.specs.Ranges.{from_to, indices, span, width}
-use Rattle.sdc_model.specs.Verilog as spec
-use Rattle.sdc_model.specs.VerilogConstants as constants
-use Rattle.sdc_model.specs.VerilogNets as nets
-use Rattle.sdc_model.specs.VerilogSyntax as syntax
-use Rattle.sdc_model.specs.VerilogTokens as lexical
-use Rattle.sdc_model.proofs.RangeFacts.{indices_length, span_length}
+use Rattle.netlist_model.specs.Ranges.{from_to, indices, span, width}
+use Rattle.netlist_model.specs.Verilog as spec
+use Rattle.netlist_model.specs.VerilogConstants as constants
+use Rattle.netlist_model.specs.VerilogNets as nets
+use Rattle.netlist_model.specs.VerilogSyntax as syntax
+use Rattle.netlist_model.specs.VerilogTokens as lexical
+use Rattle.netlist_model.proofs.RangeFacts.{indices_length, span_length}
 use Rattle.verilog_net.specs.declared.tokens.Token.{Token}
 use Rattle.verilog_net.specs.declared.names.Names.{Names}
 use Rattle.verilog_net.specs.declared.pieces.Piece.{Piece}

@@ -8,14 +8,14 @@ use Rattle.std.specs.List.{cons_option, filter_map}
 use Rattle.std.specs.Option.{option_to_list}
 use Rattle.sdc_base.proofs.CaseFacts.{by_bool, or_turned}
 use Rattle.source_types.specs.declared.netlists.Wire.{Wire}
-use Rattle.sdc_model.specs.VerilogNets as spec
-use Rattle.sdc_model.specs.VerilogSyntax as syntax
-use Rattle.sdc_model.specs.Words.{is_among, same_text}
+use Rattle.netlist_model.specs.VerilogNets as spec
+use Rattle.netlist_model.specs.VerilogSyntax as syntax
+use Rattle.text_model.specs.Words.{is_among, same_text}
 use Rattle.verilog_net.specs.declared.nets.Candidate.{Candidate}
 use Rattle.verilog_net.specs.declared.tokens.Token.{Token}
 use Rattle.verilog_net.specs.Contexts.{HasNames}
 use Rattle.verilog_net.specs.Seen.{tokens_seen}
-use Rattle.verilog_net.specs.Wires.{AddsWire, candidate_seen, candidates_seen, taken_behind, texts}
+use Rattle.verilog_net.specs.Wires.{AddsWire, candidate_seen, candidates_seen, taken_after, texts}
 
 pub texts_append : (xs ys : List Token) → texts (tokens_seen (xs ++ ys)) ≡ texts (tokens_seen xs) ++ texts (tokens_seen ys)
 texts_append [] ys = refl
@@ -41,13 +41,13 @@ pub record NamesSoFar {A S : Type 0} (set : IndexSet (String A) S) (rest all : L
 pub no_names : {A S : Type 0} (set : IndexSet (String A) S) (all : List Token) → HasNames set [] → NamesSoFar set all all
 no_names set all has = record { listed = []; has = has; same = λ name. refl }
 
-pub one_name : {A S : Type 0} (set after : IndexSet (String A) S) (rest behind all : List Token) (token : Token) → NamesSoFar set rest all → rest ≡ token ∷ behind
-    → ((listed : List (List ℕ)) → HasNames set listed → HasNames after (token.text.now ∷ listed)) → NamesSoFar after behind all
-one_name set after rest behind all token so_far here names_are = record {
+pub one_name : {A S : Type 0} (set after : IndexSet (String A) S) (rest later all : List Token) (token : Token) → NamesSoFar set rest all → rest ≡ token ∷ later
+    → ((listed : List (List ℕ)) → HasNames set listed → HasNames after (token.text.now ∷ listed)) → NamesSoFar after later all
+one_name set after rest later all token so_far here names_are = record {
   listed = token.text.now ∷ so_far.listed;
   has = names_are so_far.listed so_far.has;
   same = λ name.
-      or_turned (same_text token.text.now name) (is_among so_far.listed name) (is_among (texts (tokens_seen behind)) name)
+      or_turned (same_text token.text.now name) (is_among so_far.listed name) (is_among (texts (tokens_seen later)) name)
       ∙ (ap (λ (ts : List Token). is_among so_far.listed name || is_among (texts (tokens_seen ts)) name) (sym here) ∙ so_far.same name);
 }
 
@@ -59,7 +59,7 @@ all_names set all i so_far end name =
 
 -- ---- nets whose names are new
 
-wires_parted : (names : List (List ℕ)) (w : Wire) (ws : List Wire) → spec.new_wires names (w ∷ ws) ≡ spec.new_wires names (w ∷ []) ++ spec.new_wires (taken_behind names w) ws
+wires_parted : (names : List (List ℕ)) (w : Wire) (ws : List Wire) → spec.new_wires names (w ∷ ws) ≡ spec.new_wires names (w ∷ []) ++ spec.new_wires (taken_after names w) ws
 wires_parted names w ws =
     by_bool (λ t. (if t then spec.new_wires names ws else w ∷ spec.new_wires (w.name ∷ names) ws) ≡ (if t then spec.new_wires names [] else w ∷ spec.new_wires (w.name ∷ names) []) ++ spec.new_wires (if t then names else w.name ∷ names) ws)
     (is_among names w.name) (λ e. refl) (λ e. refl)
@@ -73,17 +73,17 @@ pub record NewSoFar {A S : Type 0} (taken : IndexSet (String A) S) (names : List
   pub has : HasNames taken listed
   pub same : nets ++ spec.new_wires listed (candidates_seen rest) ≡ start ++ spec.new_wires names (candidates_seen all)
 
-pub one_added : {A S : Type 0} (taken after : IndexSet (String A) S) (names : List (List ℕ)) (start nets more : List Wire) (rest behind all : List Candidate) (net : Candidate) → NewSoFar taken names start nets rest all → rest ≡ net ∷ behind
-    → ((listed : List (List ℕ)) → HasNames taken listed → AddsWire after listed (candidate_seen net) nets more) → NewSoFar after names start more behind all
-one_added taken after names start nets more rest behind all net so_far here adds =
+pub one_added : {A S : Type 0} (taken after : IndexSet (String A) S) (names : List (List ℕ)) (start nets more : List Wire) (rest later all : List Candidate) (net : Candidate) → NewSoFar taken names start nets rest all → rest ≡ net ∷ later
+    → ((listed : List (List ℕ)) → HasNames taken listed → AddsWire after listed (candidate_seen net) nets more) → NewSoFar after names start more later all
+one_added taken after names start nets more rest later all net so_far here adds =
     let added = adds so_far.listed so_far.has in
     record {
-      listed = taken_behind so_far.listed (candidate_seen net);
+      listed = taken_after so_far.listed (candidate_seen net);
       has = added.names_are;
       same =
-          ap (λ ws. ws ++ spec.new_wires (taken_behind so_far.listed (candidate_seen net)) (candidates_seen behind)) added.nets
-          ∙ (append_assoc nets (spec.new_wires so_far.listed (candidate_seen net ∷ [])) (spec.new_wires (taken_behind so_far.listed (candidate_seen net)) (candidates_seen behind))
-          ∙ (ap (λ ws. nets ++ ws) (sym (wires_parted so_far.listed (candidate_seen net) (candidates_seen behind)))
+          ap (λ ws. ws ++ spec.new_wires (taken_after so_far.listed (candidate_seen net)) (candidates_seen later)) added.nets
+          ∙ (append_assoc nets (spec.new_wires so_far.listed (candidate_seen net ∷ [])) (spec.new_wires (taken_after so_far.listed (candidate_seen net)) (candidates_seen later))
+          ∙ (ap (λ ws. nets ++ ws) (sym (wires_parted so_far.listed (candidate_seen net) (candidates_seen later)))
           ∙ (ap (λ (cs : List Candidate). nets ++ spec.new_wires so_far.listed (candidates_seen cs)) (sym here) ∙ so_far.same)));
     }
 

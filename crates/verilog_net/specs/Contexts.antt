@@ -1,8 +1,8 @@
 -- The reader's parts of a module and names of its header, as the definitions have them. This project's own words.
 use Rattle.std.specs.Prelude.{◌≡◌, ℕ, List, String}
 use Rattle.indexmap.specs.IndexSet.{IndexSet, contains_text}
-use Rattle.sdc_model.specs.VerilogKinds as grammar
-use Rattle.sdc_model.specs.Words.{is_among}
+use Rattle.netlist_model.specs.VerilogKinds as grammar
+use Rattle.text_model.specs.Words.{is_among}
 use Rattle.verilog_net.specs.declared.contexts.Part.{Part}
 use Rattle.verilog_net.specs.declared.contexts.Part.TheVariants.{Naming, Header, Statement, Declaring}
 

@@ -3,9 +3,9 @@ use Rattle.std.specs.Prelude.{◌≡◌, ◌||◌, ℕ, Bool, true, false, not, 
 use Rattle.std.specs.List.{filter}
 use Rattle.std.specs.Option.{option_map}
 use Rattle.indexmap.specs.IndexMap.{IndexMap, get_by_text}
-use Rattle.sdc_model.specs.Verilog as spec
-use Rattle.sdc_model.specs.VerilogNets.{is_of}
-use Rattle.sdc_model.specs.VerilogSyntax as syntax
+use Rattle.netlist_model.specs.Verilog as spec
+use Rattle.netlist_model.specs.VerilogNets.{is_of}
+use Rattle.netlist_model.specs.VerilogSyntax as syntax
 use Rattle.verilog_net.specs.declared.faults.Wrong.{Wrong}
 use Rattle.verilog_net.specs.declared.repeats.Earlier.{Earlier}
 use Rattle.verilog_net.specs.Seen.{token_seen}
@@ -35,12 +35,12 @@ earlier_of (d ∷ e ∷ ds) = Some (d, true)
 abbrev pub earlier_seen : Earlier → syntax.Declared × Bool
 earlier_seen earlier = (declared_seen earlier.first, earlier.more)
 
--- what is known behind one more declaration
+-- what is known after one more declaration
 abbrev pub one_later : Option (syntax.Declared × Bool) → syntax.Declared → syntax.Declared × Bool
 one_later None d = (d, false)
 one_later (Some known) d = (known.0, true)
 
--- a declaration is a second one behind what is known
+-- a declaration is a second one after what is known
 abbrev pub is_second_of : Option (syntax.Declared × Bool) → syntax.Declared → Bool
 is_second_of None d = false
 is_second_of (Some known) d = known.1 || not (spec.are_one known.0 d)

@@ -2,9 +2,9 @@
 use Rattle.std.specs.Prelude.{◌++◌, List, [], ◌∷◌, map, if◌then◌else◌}
 use Rattle.std.specs.List.{before_first}
 use Rattle.source_types.specs.declared.verilog_tokens.VerilogToken.TheVariants as kind
-use Rattle.sdc_model.specs.VerilogStatements.{Written, module_of, statement_of}
-use Rattle.sdc_model.specs.VerilogSyntax.{is}
-use Rattle.sdc_model.specs.VerilogTokens.{Token}
+use Rattle.netlist_model.specs.VerilogStatements.{Written, module_of, statement_of}
+use Rattle.netlist_model.specs.VerilogSyntax.{is}
+use Rattle.netlist_model.specs.VerilogTokens.{Token}
 use Rattle.verilog_net.specs.declared.written.Written.{Written as Held}
 use Rattle.verilog_net.specs.Seen.{token_seen, tokens_seen}
 use Rattle.verilog_net.specs.Syntax.{declareds_seen, parts_seen}

@@ -3,11 +3,11 @@ use Rattle.std.specs.Prelude.{◌≡◌, ◌≤◌, ◌^◌, ◌&&◌, ◌||◌,
 use Rattle.std.specs.List.{list_any}
 use Rattle.std.specs.Option.{option_map}
 use Rattle.indexmap.specs.IndexMap.{IndexMap, get_by_text}
-use Rattle.sdc_model.specs.Ranges.{span, width}
-use Rattle.sdc_model.specs.VerilogConstants.{number_of}
-use Rattle.sdc_model.specs.VerilogNets.{bits_of, declaration_of, is_of, is_port, range_named}
-use Rattle.sdc_model.specs.VerilogStatements.{Written, declarations}
-use Rattle.sdc_model.specs.VerilogSyntax as grammar
+use Rattle.netlist_model.specs.Ranges.{span, width}
+use Rattle.netlist_model.specs.VerilogConstants.{number_of}
+use Rattle.netlist_model.specs.VerilogNets.{bits_of, declaration_of, is_of, is_port, range_named}
+use Rattle.netlist_model.specs.VerilogStatements.{Written, declarations}
+use Rattle.netlist_model.specs.VerilogSyntax as grammar
 use Rattle.verilog_net.specs.declared.declarations.Declared.{Declared}
 use Rattle.verilog_net.specs.declared.names.Named.{Named}
 use Rattle.verilog_net.specs.declared.names.Names.{Names}
@@ -32,11 +32,11 @@ abbrev pub better : Option grammar.Declared → grammar.Declared → grammar.Dec
 better None d = d
 better (Some known) d = if is_port d && not (is_port known) then d else known
 
--- what is known of a name behind one more declaration
+-- what is known of a name after one more declaration
 abbrev pub with_entry : grammar.Declared → List ℕ → Option grammar.Declared → Option grammar.Declared
 with_entry d name known = if is_of name d then Some (better known d) else known
 
--- what is known of a name behind more declarations
+-- what is known of a name after more declarations
 abbrev pub with_entries : List grammar.Declared → List ℕ → Option grammar.Declared → Option grammar.Declared
 with_entries [] name known = known
 with_entries (d ∷ ds) name known = with_entries ds name (with_entry d name known)

@@ -1,4 +1,4 @@
--- Where a text breaks, by its tokens. This project's own rule for the line.
+-- The first syntax error of a text, by its tokens. This project's own rule for the line.
 use Rattle.std.specs.Prelude.{◌≡◌, ℕ, List, Option, Some, None, Result, Ok, Err, Vec, slice_get}
 use Rattle.std.specs.Str.{IsUtf8}
 use Rattle.sdc_base.specs.declared.memory.At.{At}
@@ -6,34 +6,34 @@ use Rattle.sdc_base.specs.declared.memory.Stop.{Stop}
 use Rattle.sdc_base.specs.declared.memory.Stop.TheVariants as stop
 use Rattle.source_types.specs.declared.fault_kinds.VerilogKind.{VerilogKind}
 use Rattle.source_types.specs.declared.verilog_tokens.VerilogSymbol.TheVariants.{Source}
-use Rattle.sdc_model.specs.LastLine.{last_line_of}
-use Rattle.sdc_model.specs.Verilog.{ReadsVerilog, line_of}
-use Rattle.sdc_model.specs.VerilogGrammar.{verilog}
-use Rattle.sdc_model.specs.VerilogKinds.{kinds_of}
-use Rattle.sdc_model.specs.VerilogTokens.{AreTokens, Token}
-use Rattle.token_grammar.specs.declared.grammar.Break.{Break}
-use Rattle.token_grammar.specs.declared.grammar.Break.TheVariants as broken
-use Rattle.token_grammar.specs.Texts.{Breaks}
+use Rattle.text_model.specs.LastLine.{last_line_of}
+use Rattle.netlist_model.specs.Verilog.{ReadsVerilog, line_of}
+use Rattle.netlist_model.specs.VerilogGrammar.{verilog}
+use Rattle.netlist_model.specs.VerilogKinds.{kinds_of}
+use Rattle.netlist_model.specs.VerilogTokens.{AreTokens, Token}
+use Rattle.token_grammar.specs.declared.grammar.SyntaxError.{SyntaxError}
+use Rattle.token_grammar.specs.declared.grammar.SyntaxError.TheVariants as broken
+use Rattle.token_grammar.specs.Texts.{ErrorIs}
 use Rattle.verilog_net.specs.declared.tokens.Token.{Token as CodeToken}
 use Rattle.verilog_net.specs.Seen.{tokens_seen}
 
--- the line where tokens break
-abbrev pub break_line : List ℕ → List Token → Option Break → Option ℕ
-break_line text tokens None = None
-break_line text tokens (Some (broken.Token place)) = Some (line_of (slice_get tokens place))
-break_line text tokens (Some broken.End) = Some (last_line_of text 1)
+-- the line of the first syntax error of tokens
+abbrev pub error_line : List ℕ → List Token → Option SyntaxError → Option ℕ
+error_line text tokens None = None
+error_line text tokens (Some (broken.Token place)) = Some (line_of (slice_get tokens place))
+error_line text tokens (Some broken.End) = Some (last_line_of text 1)
 
--- tokens of a text break on a line, or not at all
-pub record BreaksOn (text : List ℕ) (tokens : List Token) (line : Option ℕ) : Type 0 where
-  pub break : Option Break
-  pub breaks : Breaks verilog Source (kinds_of tokens) break
-  pub is : line ≡ break_line text tokens break
+-- tokens of a text have their first syntax error on a line, or none
+pub record ErrorIsOn (text : List ℕ) (tokens : List Token) (line : Option ℕ) : Type 0 where
+  pub error : Option SyntaxError
+  pub error_is : ErrorIs verilog Source (kinds_of tokens) error
+  pub is : line ≡ error_line text tokens error
 
 -- these are the tokens of bytes that are a netlist of the grammar
 pub record AreNetlist (bytes : List ℕ) (tokens : List Token) : Type 0 where
   pub text : IsUtf8 bytes
   pub stand : AreTokens bytes tokens
-  pub whole : Breaks verilog Source (kinds_of tokens) None
+  pub whole : ErrorIs verilog Source (kinds_of tokens) None
 
 -- the tokens of bytes, or the fault that they are read as
 abbrev pub Recognises : {A : Type 0} → Result (Vec CodeToken A) (Stop (At VerilogKind)) → List ℕ → Type 0

@@ -1,7 +1,7 @@
 -- The reader's kinds of bytes, as the grammar of netlists has them. This project's own.
 use Rattle.std.specs.Prelude.{ℕ, Bool}
-use Rattle.sdc_model.specs.VerilogConstants.{is_digits_byte, is_number_byte}
-use Rattle.sdc_model.specs.VerilogTokens.{is_word_byte}
+use Rattle.netlist_model.specs.VerilogConstants.{is_digits_byte, is_number_byte}
+use Rattle.netlist_model.specs.VerilogTokens.{is_word_byte}
 use Rattle.verilog_net.specs.declared.runs.Run.{Run}
 use Rattle.verilog_net.specs.declared.runs.Run.TheVariants.{Word, Number, Digits}
 

@@ -1,9 +1,9 @@
 -- The reader's tokens and places as the grammar of netlists has them. This project's own. Each function says for a
 -- value of the code what it is in the definitions.
 use Rattle.std.specs.Prelude.{◌≡◌, ◌<◌, ◌≤◌, ◌&&◌, ℕ, Bool, List, Option, Some, None, drop, length, map, nat_lt, slice_index}
-use Rattle.sdc_model.specs.Row.{Front, found, stops}
-use Rattle.sdc_model.specs.VerilogConstants.{is_base_letter}
-use Rattle.sdc_model.specs.VerilogTokens as grammar
+use Rattle.text_model.specs.Row.{Front, found, stops}
+use Rattle.netlist_model.specs.VerilogConstants.{is_base_letter}
+use Rattle.netlist_model.specs.VerilogTokens as grammar
 use Rattle.verilog_net.specs.declared.gaps.Gap.{Gap}
 use Rattle.verilog_net.specs.declared.gaps.Gap.TheVariants as gap
 use Rattle.verilog_net.specs.declared.lexed.Lexed.{Lexed}
@@ -24,7 +24,7 @@ rest_seen text None = None
 rest_seen text (Some at) = Some (drop at text)
 
 abbrev pub lexed_seen : List ℕ → Lexed → grammar.Lexed
-lexed_seen text lexed = record { kind = lexed.kind; text = lexed.text.now; base = lexed.base; behind = drop lexed.next text }
+lexed_seen text lexed = record { kind = lexed.kind; text = lexed.text.now; base = lexed.base; after = drop lexed.next text }
 
 -- what was read at a place of a text is the token that is wanted there, and it is at least one byte
 pub record IsLexed (text : List ℕ) (at : ℕ) (wanted : grammar.Lexed) (lexed : Lexed) : Type 0 where
@@ -41,7 +41,7 @@ tokens_seen tokens = map token_seen tokens
 abbrev pub place_seen : List ℕ → Place → grammar.Place
 place_seen text place = record { text = drop place.at text; at = place.at; line = place.line; base = place.base }
 
--- a token with the place behind it, or the end of the text
+-- a token with the place after it, or the end of the text
 abbrev pub front_seen : List ℕ → Option (Token × Place) → Front grammar.Token grammar.Place (Unit {0})
 front_seen text None = stops tt
 front_seen text (Some step) = found (token_seen step.0) (place_seen text step.1)

@@ -5,9 +5,9 @@ use Rattle.std.specs.List.{prefix_len}
 use denote.Ref.{Bor}
 use Rattle.source_types.specs.declared.netlists.Range.{Range}
 use Rattle.source_types.specs.declared.verilog_tokens.VerilogToken.{VerilogToken}
-use Rattle.sdc_model.specs.VerilogConstants.{constant_bits, number_of}
-use Rattle.sdc_model.specs.VerilogSyntax as grammar
-use Rattle.sdc_model.specs.VerilogTokens as lexical
+use Rattle.netlist_model.specs.VerilogConstants.{constant_bits, number_of}
+use Rattle.netlist_model.specs.VerilogSyntax as grammar
+use Rattle.netlist_model.specs.VerilogTokens as lexical
 use Rattle.verilog_net.specs.declared.declarations.Declared.{Declared}
 use Rattle.verilog_net.specs.declared.declarations.Role.{Role}
 use Rattle.verilog_net.specs.declared.declarations.Role.TheVariants as role
@@ -36,11 +36,11 @@ is_direction_seen token = grammar.is_direction (token_seen token)
 abbrev pub directions_len : List Token → ℕ
 directions_len tokens = prefix_len (λ token. not (grammar.is_direction (token_seen token))) tokens
 
--- the range of bounds that are left, behind a first one if it was read
-abbrev pub range_behind : Option ℕ → List lexical.Token → Option Range
-range_behind None tokens = grammar.range_of tokens
-range_behind (Some left) [] = None
-range_behind (Some left) (right ∷ tokens) = Some (record { left = left; right = number_of right.text })
+-- the range of bounds that are left, after a first one if it was read
+abbrev pub range_after : Option ℕ → List lexical.Token → Option Range
+range_after None tokens = grammar.range_of tokens
+range_after (Some left) [] = None
+range_after (Some left) (right ∷ tokens) = Some (record { left = left; right = number_of right.text })
 
 -- ---- numbers
 

@@ -2,12 +2,12 @@
 //!
 //! Each function here that may fail has want of memory as its one error.
 
-ghost use Rattle.std.specs.Prelude.{◌≡◌, ◌++◌, ◌+◌, ◌-◌, ◌∷◌, [], map, nat_lt, IfOk, OnOk, Some, if◌then◌else◌};
+ghost use Rattle.std.specs.Prelude.{◌≡◌, ◌≤◌, ◌<◌, ◌++◌, ◌+◌, ◌-◌, ◌∷◌, [], map, nat_lt, IfOk, OnErr, OnOk, Some, if◌then◌else◌};
 ghost use Rattle.source_types.specs.declared.netlists.Bit.TheVariants as variants;
-ghost use Rattle.sdc_model.specs.Ranges as ranges;
-ghost use Rattle.sdc_model.specs.VerilogConstants as constants;
-ghost use Rattle.sdc_model.specs.VerilogNets as nets;
-ghost use Rattle.sdc_model.specs.VerilogSyntax as syntax;
+ghost use Rattle.netlist_model.specs.Ranges as ranges;
+ghost use Rattle.netlist_model.specs.VerilogConstants as constants;
+ghost use Rattle.netlist_model.specs.VerilogNets as nets;
+ghost use Rattle.netlist_model.specs.VerilogSyntax as syntax;
 ghost use Rattle.verilog_net.specs.Names.{IsTied, declarations_of};
 ghost use Rattle.verilog_net.specs.Seen.{tokens_seen};
 ghost use Rattle.verilog_net.specs.Syntax.{piece_seen, pieces_seen};
@@ -18,7 +18,7 @@ use crate::names::Names;
 use crate::pieces::{Piece, add_pieces};
 use crate::tokens::Token;
 use sdc_base::{List, NoMemory, Text};
-use sdc_model::{Bit, Range};
+use source_types::{Bit, Range};
 use std::alloc::Global;
 
 /// Adds the bit of a net at an index, or of a scalar.
@@ -93,7 +93,24 @@ fn add_values(values: &[Option<bool>], bits: &mut List<Bit>) -> Result<(), NoMem
     Ok(())
 }
 
-/// Adds the bits of a constant. No text of the grammar has one of more than 64; it would count as want of memory.
+/// The size of a constant, at most 64, as the token of it spells it.
+///
+/// No memory is taken: the one error, want of memory, is the answer where the number passes 64, and nowhere else. No
+/// text of the grammar has such a size.
+#[tactic(auto, using(crate::proofs::NumberFacts::long_size))]
+fn size_of(token: &Token<'_>) -> Result<u32, NoMemory>
+    ensures is { IfOk result (λ size. size ≡ constants.number_of token.now.text.now) }
+    ensures small { IfOk result (λ size. size ≤ 64) }
+    ensures limit { OnErr result (64 < constants.number_of token.now.text.now) }
+{
+    let size = number(token)?;
+    if size > 64 {
+        return Err(NoMemory);
+    }
+    Ok(size)
+}
+
+/// Adds the bits of a constant.
 fn add_constant(
     alloc: Global,
     size: &Token<'_>,
@@ -103,10 +120,7 @@ fn add_constant(
 ) -> Result<(), NoMemory>
     ensures { OnOk result (bits.new ≡ bits.old ++ map variants.Constant (constants.constant_bits (constants.number_of size.now.text.now) (syntax.letter_of base.now.text.now) digits.now.text.now)) }
 {
-    let size = number(size)?;
-    if size > 64 {
-        return Err(NoMemory);
-    }
+    let size = size_of(size)?;
     let letter = letter_of(base.text.as_bytes());
     let values = constant_bits(alloc, size, letter, digits.text.as_bytes())?;
     add_values(values.as_slice(), bits)

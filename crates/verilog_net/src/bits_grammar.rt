@@ -1,16 +1,16 @@
-//! The grammar of what is assigned and connected (IEEE 1364-2005): what stands behind a token that each part begins
+//! The grammar of what is assigned and connected (IEEE 1364-2005): what stands after a token that each part begins
 //! with.
 
 ghost use Rattle.std.specs.Prelude.{◌≡◌};
 ghost use Rattle.std.specs.Option.{option_map};
-ghost use Rattle.sdc_model.specs.VerilogBits as spec;
+ghost use Rattle.netlist_model.specs.VerilogBits as spec;
 
-use crate::grammar::Behind;
-use sdc_model::{VerilogSymbol as Symbol, VerilogToken as Kind};
+use crate::grammar::After;
+use source_types::{VerilogSymbol as Symbol, VerilogToken as Kind};
 
 /// A bound of a range.
-pub fn bound(kind: Kind) -> Behind
-    ensures { option_map (λ behind. behind.now) result ≡ spec.bound kind }
+pub fn bound(kind: Kind) -> After
+    ensures { option_map (λ after. after.now) result ≡ spec.bound kind }
 {
     match kind {
         Kind::Size | Kind::Number => Some(&[]),
@@ -19,8 +19,8 @@ pub fn bound(kind: Kind) -> Behind
 }
 
 /// More assignments of an `assign`.
-pub fn assignments(kind: Kind) -> Behind
-    ensures { option_map (λ behind. behind.now) result ≡ spec.assignments kind }
+pub fn assignments(kind: Kind) -> After
+    ensures { option_map (λ after. after.now) result ≡ spec.assignments kind }
 {
     match kind {
         Kind::Comma => Some(&[
@@ -35,8 +35,8 @@ pub fn assignments(kind: Kind) -> Behind
 }
 
 /// The left side of an assignment.
-pub fn left(kind: Kind) -> Behind
-    ensures { option_map (λ behind. behind.now) result ≡ spec.left kind }
+pub fn left(kind: Kind) -> After
+    ensures { option_map (λ after. after.now) result ≡ spec.left kind }
 {
     match kind {
         Kind::Name => Some(&[Symbol::Select]),
@@ -46,8 +46,8 @@ pub fn left(kind: Kind) -> Behind
 }
 
 /// More parts of a concatenation on the left.
-pub fn left_parts(kind: Kind) -> Behind
-    ensures { option_map (λ behind. behind.now) result ≡ spec.left_parts kind }
+pub fn left_parts(kind: Kind) -> After
+    ensures { option_map (λ after. after.now) result ≡ spec.left_parts kind }
 {
     match kind {
         Kind::Comma => Some(&[Symbol::Left, Symbol::LeftParts]),
@@ -57,8 +57,8 @@ pub fn left_parts(kind: Kind) -> Behind
 }
 
 /// The bits of a net that are selected.
-pub fn select(kind: Kind) -> Behind
-    ensures { option_map (λ behind. behind.now) result ≡ spec.select kind }
+pub fn select(kind: Kind) -> After
+    ensures { option_map (λ after. after.now) result ≡ spec.select kind }
 {
     match kind {
         Kind::OpenBracket => Some(&[Symbol::Index, Symbol::SelectEnd]),
@@ -67,8 +67,8 @@ pub fn select(kind: Kind) -> Behind
 }
 
 /// The second bound of a select, or its end.
-pub fn select_end(kind: Kind) -> Behind
-    ensures { option_map (λ behind. behind.now) result ≡ spec.select_end kind }
+pub fn select_end(kind: Kind) -> After
+    ensures { option_map (λ after. after.now) result ≡ spec.select_end kind }
 {
     match kind {
         Kind::Colon => Some(&[Symbol::Index, Symbol::Token(Kind::CloseBracket)]),
@@ -78,8 +78,8 @@ pub fn select_end(kind: Kind) -> Behind
 }
 
 /// The index of a bit.
-pub fn index(kind: Kind) -> Behind
-    ensures { option_map (λ behind. behind.now) result ≡ spec.index kind }
+pub fn index(kind: Kind) -> After
+    ensures { option_map (λ after. after.now) result ≡ spec.index kind }
 {
     match kind {
         Kind::LargeNumber => Some(&[]),
@@ -88,8 +88,8 @@ pub fn index(kind: Kind) -> Behind
 }
 
 /// A net, a constant or a concatenation.
-pub fn bits(kind: Kind) -> Behind
-    ensures { option_map (λ behind. behind.now) result ≡ spec.bits kind }
+pub fn bits(kind: Kind) -> After
+    ensures { option_map (λ after. after.now) result ≡ spec.bits kind }
 {
     match kind {
         Kind::Name => Some(&[Symbol::Select]),
@@ -100,8 +100,8 @@ pub fn bits(kind: Kind) -> Behind
 }
 
 /// More parts of a concatenation.
-pub fn parts(kind: Kind) -> Behind
-    ensures { option_map (λ behind. behind.now) result ≡ spec.parts kind }
+pub fn parts(kind: Kind) -> After
+    ensures { option_map (λ after. after.now) result ≡ spec.parts kind }
 {
     match kind {
         Kind::Comma => Some(&[Symbol::Bits, Symbol::Parts]),
@@ -111,8 +111,8 @@ pub fn parts(kind: Kind) -> Behind
 }
 
 /// More instances of a statement.
-pub fn instances(kind: Kind) -> Behind
-    ensures { option_map (λ behind. behind.now) result ≡ spec.instances kind }
+pub fn instances(kind: Kind) -> After
+    ensures { option_map (λ after. after.now) result ≡ spec.instances kind }
 {
     match kind {
         Kind::Comma => Some(&[
@@ -127,8 +127,8 @@ pub fn instances(kind: Kind) -> Behind
 }
 
 /// The connections of an instance: none, named ones, or ordered ones.
-pub fn connections(kind: Kind) -> Behind
-    ensures { option_map (λ behind. behind.now) result ≡ spec.connections kind }
+pub fn connections(kind: Kind) -> After
+    ensures { option_map (λ after. after.now) result ≡ spec.connections kind }
 {
     match kind {
         Kind::Close => Some(&[]),
@@ -152,8 +152,8 @@ pub fn connections(kind: Kind) -> Behind
 }
 
 /// More ordered connections.
-pub fn ordered_connections(kind: Kind) -> Behind
-    ensures { option_map (λ behind. behind.now) result ≡ spec.ordered_connections kind }
+pub fn ordered_connections(kind: Kind) -> After
+    ensures { option_map (λ after. after.now) result ≡ spec.ordered_connections kind }
 {
     match kind {
         Kind::Comma => Some(&[Symbol::Connected, Symbol::OrderedConnections]),
@@ -163,8 +163,8 @@ pub fn ordered_connections(kind: Kind) -> Behind
 }
 
 /// More named connections.
-pub fn named_connections(kind: Kind) -> Behind
-    ensures { option_map (λ behind. behind.now) result ≡ spec.named_connections kind }
+pub fn named_connections(kind: Kind) -> After
+    ensures { option_map (λ after. after.now) result ≡ spec.named_connections kind }
 {
     match kind {
         Kind::Comma => Some(&[

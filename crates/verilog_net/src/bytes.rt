@@ -1,9 +1,9 @@
 //! Kinds of bytes of a netlist's text (IEEE 1364-2005, lexical conventions).
 
 ghost use Rattle.std.specs.Prelude.{◌≡◌, drop};
-ghost use Rattle.sdc_model.specs.Bytes.{begins_with};
-ghost use Rattle.sdc_model.specs.VerilogConstants as digits;
-ghost use Rattle.sdc_model.specs.VerilogTokens as tokens;
+ghost use Rattle.text_model.specs.Bytes.{begins_with};
+ghost use Rattle.netlist_model.specs.VerilogConstants as digits;
+ghost use Rattle.netlist_model.specs.VerilogTokens as tokens;
 
 /// Whether a byte parts tokens: a space, a tab, a carriage return or a newline.
 pub fn is_blank(byte: u8) -> bool
@@ -33,7 +33,7 @@ pub fn is_number_byte(byte: u8) -> bool
     byte.is_ascii_digit() || byte == b'_'
 }
 
-/// Whether a byte belongs to the digits behind a base: a letter, a digit, `_` or `?`.
+/// Whether a byte belongs to the digits after a base: a letter, a digit, `_` or `?`.
 pub fn is_digits_byte(byte: u8) -> bool
     ensures { result ≡ digits.is_digits_byte byte }
 {

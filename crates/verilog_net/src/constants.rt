@@ -4,8 +4,8 @@
 
 ghost use Rattle.std.specs.Prelude.{◌≡◌, ◌≤◌, ◌<◌, ◌==◌, ◌++◌, ◌/◌, ◌%◌, ◌^◌, ◌-◌, ◌∷◌, [], drop, length, IfOk, OnOk};
 ghost use Rattle.std.specs.List.{flat_map, repeat};
-ghost use Rattle.sdc_model.specs.VerilogConstants as grammar;
-ghost use Rattle.sdc_model.specs.VerilogSyntax as syntax;
+ghost use Rattle.netlist_model.specs.VerilogConstants as grammar;
+ghost use Rattle.netlist_model.specs.VerilogSyntax as syntax;
 
 use crate::bytes::{is_decimal, is_open_digit, lower};
 use sdc_base::NoMemory;
@@ -118,7 +118,7 @@ fn fitted(alloc: Global, size: u32, found: &[Option<bool>]) -> Result<Vec<Option
     Ok(bits)
 }
 
-/// The number behind one more digit, its lowest 64 bits.
+/// The number after one more digit, its lowest 64 bits.
 #[tactic(auto, using(crate::proofs::ConstantFacts::wrapped_digit))]
 fn next_wrapped(number: u64, byte: u8) -> u64
     ensures { result ≡ grammar.next_number number byte % 2 ^ 64 }
@@ -176,7 +176,7 @@ fn binary_bits(
 }
 
 /// The bits of a constant of at most 64, from its size, the letter of its base and its digits.
-#[tactic(auto, unfolding(sdc_model::specs::VerilogConstants::constant_bits))]
+#[tactic(auto, unfolding(netlist_model::specs::VerilogConstants::constant_bits))]
 pub fn constant_bits(
     alloc: Global,
     size: u32,

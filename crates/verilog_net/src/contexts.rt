@@ -1,22 +1,22 @@
 //! What tokens are by what stands before them.
 
 ghost use Rattle.std.specs.Prelude.{◌≡◌, ◌<◌, ◌≤◌, ◌+◌, [], List, ℕ, IfOk, OnOk};
-ghost use Rattle.sdc_model.specs.VerilogKinds as grammar;
+ghost use Rattle.netlist_model.specs.VerilogKinds as grammar;
 ghost use Rattle.verilog_net.specs.Contexts.{HasNames, part_seen};
 ghost use Rattle.verilog_net.specs.Seen.{tokens_seen};
 
 use crate::name_sets::{NameSet, add_name, has_name, no_names};
 use crate::tokens::Token;
 use sdc_base::NoMemory;
-use sdc_model::VerilogToken;
+use source_types::VerilogToken;
 use std::alloc::Global;
 
 /// The part of a module that a token stands in.
-#[derive(Clone, Copy, Debug)]
+#[derive(Clone, Copy)]
 pub enum Part {
-    /// Behind `module`.
+    /// After `module`.
     Naming,
-    /// In the header, behind the module's name.
+    /// In the header, after the module's name.
     Header,
     /// In or between statements.
     Statement,
@@ -24,9 +24,9 @@ pub enum Part {
     Declaring,
 }
 
-/// The part behind a name.
-fn behind_name(part: Part) -> Part
-    ensures { part_seen result ≡ grammar.behind_name (part_seen part) }
+/// The part after a name.
+fn after_name(part: Part) -> Part
+    ensures { part_seen result ≡ grammar.after_name (part_seen part) }
 {
     match part {
         Part::Naming => Part::Header,
@@ -36,9 +36,9 @@ fn behind_name(part: Part) -> Part
     }
 }
 
-/// The part behind a semicolon.
-fn behind_semicolon(part: Part) -> Part
-    ensures { part_seen result ≡ grammar.behind_semicolon (part_seen part) }
+/// The part after a semicolon.
+fn after_semicolon(part: Part) -> Part
+    ensures { part_seen result ≡ grammar.after_semicolon (part_seen part) }
 {
     match part {
         Part::Naming => Part::Naming,
@@ -48,9 +48,9 @@ fn behind_semicolon(part: Part) -> Part
     }
 }
 
-/// The part behind a direction.
-fn behind_direction(part: Part) -> Part
-    ensures { part_seen result ≡ grammar.behind_direction (part_seen part) }
+/// The part after a direction.
+fn after_direction(part: Part) -> Part
+    ensures { part_seen result ≡ grammar.after_direction (part_seen part) }
 {
     match part {
         Part::Naming => Part::Naming,
@@ -60,22 +60,22 @@ fn behind_direction(part: Part) -> Part
     }
 }
 
-/// The part of a module behind a kind of token.
-fn part_behind(part: Part, kind: VerilogToken) -> Part
-    ensures { part_seen result ≡ grammar.part_behind (part_seen part) kind }
+/// The part of a module after a kind of token.
+fn part_after(part: Part, kind: VerilogToken) -> Part
+    ensures { part_seen result ≡ grammar.part_after (part_seen part) kind }
 {
     match kind {
         VerilogToken::Module => Part::Naming,
-        VerilogToken::Name => behind_name(part),
-        VerilogToken::Semicolon => behind_semicolon(part),
-        VerilogToken::Input => behind_direction(part),
-        VerilogToken::Output => behind_direction(part),
-        VerilogToken::Inout => behind_direction(part),
+        VerilogToken::Name => after_name(part),
+        VerilogToken::Semicolon => after_semicolon(part),
+        VerilogToken::Input => after_direction(part),
+        VerilogToken::Output => after_direction(part),
+        VerilogToken::Inout => after_direction(part),
         _ => part,
     }
 }
 
-/// The names of a header behind one more name, where it stands there. The one error is want of memory.
+/// The names of a header after one more name, where it stands there. The one error is want of memory.
 fn listed_name(alloc: Global, names: &mut NameSet, part: Part, name: &str) -> Result<(), NoMemory>
     ensures { OnOk result ((listed : List (List ℕ)) → HasNames names.old listed → HasNames names.new (grammar.with_name (part_seen part) listed name.now)) }
 {
@@ -87,17 +87,17 @@ fn listed_name(alloc: Global, names: &mut NameSet, part: Part, name: &str) -> Re
     }
 }
 
-/// The names of a header behind a kind of token with its text. The one error is want of memory.
+/// The names of a header after a kind of token with its text. The one error is want of memory.
 ///
 /// A new set begins with each module: emptying one takes as long as it was ever large.
-fn names_behind(
+fn names_after(
     alloc: Global,
     names: &mut NameSet,
     part: Part,
     text: &str,
     kind: VerilogToken,
 ) -> Result<(), NoMemory>
-    ensures { OnOk result ((listed : List (List ℕ)) → HasNames names.old listed → HasNames names.new (grammar.listed_behind (part_seen part) listed text.now kind)) }
+    ensures { OnOk result ((listed : List (List ℕ)) → HasNames names.old listed → HasNames names.new (grammar.listed_after (part_seen part) listed text.now kind)) }
 {
     match kind {
         VerilogToken::Module => {
@@ -109,10 +109,10 @@ fn names_behind(
     }
 }
 
-/// The number of open braces behind a kind of token.
-fn braces_behind(braces: usize, kind: VerilogToken) -> usize
+/// The number of open braces after a kind of token.
+fn braces_after(braces: usize, kind: VerilogToken) -> usize
     requires { braces < 18446744073709551615 }
-    ensures is { result ≡ grammar.braces_behind braces kind }
+    ensures is { result ≡ grammar.braces_after braces kind }
     ensures few { result ≤ braces + 1 }
 {
     match kind {
@@ -145,7 +145,7 @@ fn declared_kind(names: &NameSet, name: &str) -> VerilogToken
     }
 }
 
-/// The kind of an opening brace behind so many that are open.
+/// The kind of an opening brace after so many that are open.
 fn brace_kind(braces: usize) -> VerilogToken
     ensures { result ≡ grammar.brace_kind braces }
 {
@@ -184,9 +184,9 @@ pub fn kinds_of(alloc: Global, tokens: &[Token<'_>]) -> Result<Vec<VerilogToken>
     let mut braces = 0;
     for token in tokens.iter() {
         kinds.push(kind_in(part, &names, braces, token.text, token.kind))?;
-        names_behind(alloc, &mut names, part, token.text, token.kind)?;
-        part = part_behind(part, token.kind);
-        braces = braces_behind(braces, token.kind);
+        names_after(alloc, &mut names, part, token.text, token.kind)?;
+        part = part_after(part, token.kind);
+        braces = braces_after(braces, token.kind);
     }
     Ok(kinds)
 }

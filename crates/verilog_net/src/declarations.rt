@@ -6,20 +6,21 @@ ghost use Rattle.std.specs.Prelude.{◌≡◌, ◌≤◌, ◌++◌, ◌∷◌, [
 ghost use Rattle.std.specs.List.{before_first, filter, list_any, prefix_len};
 ghost use Rattle.std.specs.Option.{option_map};
 ghost use Rattle.source_types.specs.declared.verilog_tokens.VerilogToken.TheVariants as kind;
-ghost use Rattle.sdc_model.specs.VerilogConstants as digits;
-ghost use Rattle.sdc_model.specs.VerilogSyntax as grammar;
-ghost use Rattle.sdc_model.specs.VerilogTokens as lexical;
+ghost use Rattle.netlist_model.specs.VerilogConstants as digits;
+ghost use Rattle.netlist_model.specs.VerilogSyntax as grammar;
+ghost use Rattle.netlist_model.specs.VerilogTokens as lexical;
 ghost use Rattle.verilog_net.specs.Seen.{token_seen, tokens_seen};
 ghost use Rattle.verilog_net.specs.Syntax.{declareds_seen, directions_len, is_direction_seen, is_long, is_long_bound, role_seen};
 
 use crate::kind_numbers::same_kind;
 use crate::numbers::number_of;
 use crate::tokens::Token;
+use pin_types::Direction;
 use sdc_base::NoMemory;
-use sdc_model::{Direction, Range, VerilogToken};
+use source_types::{Range, VerilogToken};
 
 /// What a name is declared as.
-#[derive(Clone, Copy, Debug)]
+#[derive(Clone, Copy)]
 pub enum Role {
     /// A port of a direction.
     Port(Direction),
@@ -29,7 +30,7 @@ pub enum Role {
 }
 
 /// A name that is declared, by its token.
-#[derive(Clone, Copy, Debug)]
+#[derive(Clone, Copy)]
 pub struct Declared<'a> {
     pub name: Token<'a>,
     pub role: Role,
@@ -132,7 +133,7 @@ fn add_names<'a>(
     Ok(())
 }
 
-/// Adds what tokens declare behind a keyword: each of their names, with their range.
+/// Adds what tokens declare after a keyword: each of their names, with their range.
 fn add_declared<'a>(
     role: Role,
     tokens: &'a [Token<'a>],
@@ -144,8 +145,8 @@ fn add_declared<'a>(
     add_names(role, range, tokens, found)
 }
 
-/// Adds what tokens declare behind a keyword, if it is one that declares.
-fn add_behind<'a>(
+/// Adds what tokens declare after a keyword, if it is one that declares.
+fn add_after<'a>(
     keyword: &Token<'a>,
     tokens: &'a [Token<'a>],
     found: &mut Vec<Declared<'a>>,
@@ -166,7 +167,7 @@ pub fn add_statement_declares<'a>(
     ensures { OnOk result (declareds_seen found.new.items ≡ declareds_seen found.old.items ++ grammar.statement_declares (tokens_seen tokens.now)) }
 {
     match tokens {
-        [keyword, rest @ ..] => add_behind(keyword, rest, found),
+        [keyword, rest @ ..] => add_after(keyword, rest, found),
         [] => Ok(()),
     }
 }
@@ -191,7 +192,7 @@ fn before_direction<'a>(tokens: &'a [Token<'a>]) -> &'a [Token<'a>]
     &tokens[..len]
 }
 
-/// Adds what a token and those behind it declare in a header, if the token is a direction.
+/// Adds what a token and those after it declare in a header, if the token is a direction.
 fn add_port<'a>(
     token: &Token<'a>,
     rest: &'a [Token<'a>],
@@ -202,7 +203,7 @@ fn add_port<'a>(
     if !is_direction(token) {
         return Ok(());
     }
-    add_behind(token, before_direction(rest), found)
+    add_after(token, before_direction(rest), found)
 }
 
 /// Adds what a header declares.

@@ -6,9 +6,9 @@
 ghost use Rattle.std.specs.Prelude.{◌≡◌, ◌++◌, [], map, All, IfOk, OnOk};
 ghost use Rattle.std.specs.List.{flat_map};
 ghost use Rattle.std.specs.Option.{option_map};
-ghost use Rattle.sdc_model.specs.Verilog as spec;
-ghost use Rattle.sdc_model.specs.VerilogNets.{pieces_in};
-ghost use Rattle.sdc_model.specs.VerilogStatements as grammar;
+ghost use Rattle.netlist_model.specs.Verilog as spec;
+ghost use Rattle.netlist_model.specs.VerilogNets.{pieces_in};
+ghost use Rattle.netlist_model.specs.VerilogStatements as grammar;
 ghost use Rattle.verilog_net.specs.Faults.{kept_wrong, wrong_seen, wrongs_seen};
 ghost use Rattle.verilog_net.specs.Modules.{written_seen};
 ghost use Rattle.verilog_net.specs.Names.{IsNamed, IsTied, declarations_of, named_modules};
@@ -23,11 +23,11 @@ use crate::tokens::Token;
 use crate::uses::{add_uneven, add_unknown, undeclared};
 use crate::written::Written;
 use sdc_base::NoMemory;
-use sdc_model::VerilogKind;
+use source_types::VerilogKind;
 use std::alloc::Global;
 
 /// A fault at a token.
-#[derive(Clone, Copy, Debug)]
+#[derive(Clone, Copy)]
 pub struct Wrong<'a> {
     pub token: Token<'a>,
     pub kind: VerilogKind,

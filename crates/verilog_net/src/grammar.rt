@@ -2,17 +2,17 @@
 
 ghost use Rattle.std.specs.Prelude.{◌≡◌};
 ghost use Rattle.std.specs.Option.{option_map};
-ghost use Rattle.sdc_model.proofs.VerilogDecides.{decides, follow};
+ghost use Rattle.netlist_model.proofs.VerilogDecides.{decides, follow};
 ghost use Rattle.source_types.specs.declared.verilog_tokens.VerilogSymbol.TheVariants as part;
-ghost use Rattle.sdc_model.specs.VerilogGrammar as spec;
+ghost use Rattle.netlist_model.specs.VerilogGrammar as spec;
 
 use crate::bits_grammar;
 use crate::kind_numbers::same_kind;
-use sdc_model::{VerilogSymbol as Symbol, VerilogToken as Kind};
+use source_types::{VerilogSymbol as Symbol, VerilogToken as Kind};
 use token_grammar::Grammar;
 
-/// What stands behind a token, or `None` where it cannot stand there.
-pub type Behind = Option<&'static [Symbol]>;
+/// What stands after a token, or `None` where it cannot stand there.
+pub type After = Option<&'static [Symbol]>;
 
 /// The grammar of netlists.
 pub struct Netlists;
@@ -26,7 +26,7 @@ impl Grammar for Netlists {
 
     ghost follow = { follow };
 
-    fn next(symbol: Symbol, kind: Kind) -> Behind {
+    fn next(symbol: Symbol, kind: Kind) -> After {
         match symbol {
             Symbol::Token(token) => token_itself(token, kind),
             Symbol::Source => source(kind),
@@ -67,8 +67,8 @@ impl Grammar for Netlists {
 }
 
 /// A token.
-fn token_itself(token: Kind, kind: Kind) -> Behind
-    ensures { option_map (λ behind. behind.now) result ≡ spec.next (part.Token token) kind }
+fn token_itself(token: Kind, kind: Kind) -> After
+    ensures { option_map (λ after. after.now) result ≡ spec.next (part.Token token) kind }
 {
     if same_kind(token, kind) {
         Some(&[])
@@ -78,8 +78,8 @@ fn token_itself(token: Kind, kind: Kind) -> Behind
 }
 
 /// Modules.
-fn source(kind: Kind) -> Behind
-    ensures { option_map (λ behind. behind.now) result ≡ spec.source kind }
+fn source(kind: Kind) -> After
+    ensures { option_map (λ after. after.now) result ≡ spec.source kind }
 {
     match kind {
         Kind::Module => Some(&[Symbol::Token(Kind::Name), Symbol::Header, Symbol::Source]),
@@ -87,9 +87,9 @@ fn source(kind: Kind) -> Behind
     }
 }
 
-/// A module behind its name.
-fn header(kind: Kind) -> Behind
-    ensures { option_map (λ behind. behind.now) result ≡ spec.header kind }
+/// A module after its name.
+fn header(kind: Kind) -> After
+    ensures { option_map (λ after. after.now) result ≡ spec.header kind }
 {
     match kind {
         Kind::Semicolon => Some(&[Symbol::Statements]),
@@ -99,8 +99,8 @@ fn header(kind: Kind) -> Behind
 }
 
 /// The ports of a header: none, a list of names, or one of declarations.
-fn ports(kind: Kind) -> Behind
-    ensures { option_map (λ behind. behind.now) result ≡ spec.ports kind }
+fn ports(kind: Kind) -> After
+    ensures { option_map (λ after. after.now) result ≡ spec.ports kind }
 {
     match kind {
         Kind::Close => Some(&[Symbol::Token(Kind::Semicolon), Symbol::Statements]),
@@ -111,8 +111,8 @@ fn ports(kind: Kind) -> Behind
 }
 
 /// More names of a list of ports.
-fn listed_ports(kind: Kind) -> Behind
-    ensures { option_map (λ behind. behind.now) result ≡ spec.listed_ports kind }
+fn listed_ports(kind: Kind) -> After
+    ensures { option_map (λ after. after.now) result ≡ spec.listed_ports kind }
 {
     match kind {
         Kind::Comma => Some(&[Symbol::Token(Kind::Name), Symbol::ListedPorts]),
@@ -121,9 +121,9 @@ fn listed_ports(kind: Kind) -> Behind
     }
 }
 
-/// A declared port behind the kind of its net.
-fn named_port(kind: Kind) -> Behind
-    ensures { option_map (λ behind. behind.now) result ≡ spec.named_port kind }
+/// A declared port after the kind of its net.
+fn named_port(kind: Kind) -> After
+    ensures { option_map (λ after. after.now) result ≡ spec.named_port kind }
 {
     match kind {
         Kind::OpenBracket => Some(&[
@@ -139,9 +139,9 @@ fn named_port(kind: Kind) -> Behind
     }
 }
 
-/// A declared port behind its direction.
-fn declared_port(kind: Kind) -> Behind
-    ensures { option_map (λ behind. behind.now) result ≡ spec.declared_port kind }
+/// A declared port after its direction.
+fn declared_port(kind: Kind) -> After
+    ensures { option_map (λ after. after.now) result ≡ spec.declared_port kind }
 {
     match kind {
         Kind::Wire | Kind::Tri => Some(&[Symbol::NamedPort]),
@@ -150,8 +150,8 @@ fn declared_port(kind: Kind) -> Behind
 }
 
 /// More declared ports.
-fn declared_ports(kind: Kind) -> Behind
-    ensures { option_map (λ behind. behind.now) result ≡ spec.declared_ports kind }
+fn declared_ports(kind: Kind) -> After
+    ensures { option_map (λ after. after.now) result ≡ spec.declared_ports kind }
 {
     match kind {
         Kind::Comma => Some(&[Symbol::NextPort]),
@@ -160,9 +160,9 @@ fn declared_ports(kind: Kind) -> Behind
     }
 }
 
-/// A declared port behind a comma.
-fn next_port(kind: Kind) -> Behind
-    ensures { option_map (λ behind. behind.now) result ≡ spec.next_port kind }
+/// A declared port after a comma.
+fn next_port(kind: Kind) -> After
+    ensures { option_map (λ after. after.now) result ≡ spec.next_port kind }
 {
     match kind {
         Kind::Name => Some(&[Symbol::DeclaredPorts]),
@@ -172,8 +172,8 @@ fn next_port(kind: Kind) -> Behind
 }
 
 /// Statements of a module without a list of names.
-fn statements(kind: Kind) -> Behind
-    ensures { option_map (λ behind. behind.now) result ≡ spec.statements kind }
+fn statements(kind: Kind) -> After
+    ensures { option_map (λ after. after.now) result ≡ spec.statements kind }
 {
     match kind {
         Kind::EndModule => Some(&[]),
@@ -200,8 +200,8 @@ fn statements(kind: Kind) -> Behind
 }
 
 /// Statements of a module, port declarations among them.
-fn port_statements(kind: Kind) -> Behind
-    ensures { option_map (λ behind. behind.now) result ≡ spec.port_statements kind }
+fn port_statements(kind: Kind) -> After
+    ensures { option_map (λ after. after.now) result ≡ spec.port_statements kind }
 {
     match kind {
         Kind::EndModule => Some(&[]),
@@ -231,9 +231,9 @@ fn port_statements(kind: Kind) -> Behind
     }
 }
 
-/// A declaration of nets behind its keyword.
-fn declaration(kind: Kind) -> Behind
-    ensures { option_map (λ behind. behind.now) result ≡ spec.declaration kind }
+/// A declaration of nets after its keyword.
+fn declaration(kind: Kind) -> After
+    ensures { option_map (λ after. after.now) result ≡ spec.declaration kind }
 {
     match kind {
         Kind::OpenBracket => Some(&[
@@ -249,9 +249,9 @@ fn declaration(kind: Kind) -> Behind
     }
 }
 
-/// A declaration of ports behind its direction.
-fn port_declaration(kind: Kind) -> Behind
-    ensures { option_map (λ behind. behind.now) result ≡ spec.port_declaration kind }
+/// A declaration of ports after its direction.
+fn port_declaration(kind: Kind) -> After
+    ensures { option_map (λ after. after.now) result ≡ spec.port_declaration kind }
 {
     match kind {
         Kind::Wire | Kind::Tri => Some(&[Symbol::Declaration]),
@@ -260,8 +260,8 @@ fn port_declaration(kind: Kind) -> Behind
 }
 
 /// More names of a declaration.
-fn names(kind: Kind) -> Behind
-    ensures { option_map (λ behind. behind.now) result ≡ spec.names kind }
+fn names(kind: Kind) -> After
+    ensures { option_map (λ after. after.now) result ≡ spec.names kind }
 {
     match kind {
         Kind::Comma => Some(&[Symbol::Token(Kind::Name), Symbol::Names]),

@@ -4,9 +4,9 @@
 
 ghost use Rattle.std.specs.Prelude.{◌≡◌, ◌++◌, ◌∷◌, [], List, map, IfOk, OnOk};
 ghost use Rattle.std.specs.List.{flat_map};
-ghost use Rattle.sdc_model.specs.VerilogNets as nets;
-ghost use Rattle.sdc_model.specs.VerilogStatements as grammar;
-ghost use Rattle.sdc_model.specs.VerilogSyntax as syntax;
+ghost use Rattle.netlist_model.specs.VerilogNets as nets;
+ghost use Rattle.netlist_model.specs.VerilogStatements as grammar;
+ghost use Rattle.netlist_model.specs.VerilogSyntax as syntax;
 ghost use Rattle.verilog_net.specs.Links.{link_from};
 ghost use Rattle.verilog_net.specs.Names.{IsTied, declarations_of};
 ghost use Rattle.verilog_net.specs.Seen.{token_seen, tokens_seen};
@@ -20,7 +20,7 @@ use crate::pieces::add_net_pieces;
 use crate::statements::inner;
 use crate::tokens::Token;
 use sdc_base::{List, NoMemory, Text};
-use sdc_model::{Assign, Bit, Instance, Link, Links, VerilogToken};
+use source_types::{Assign, Bit, Instance, Link, Links, VerilogToken};
 use std::alloc::Global;
 
 /// The bits of each ordered connection.
@@ -99,7 +99,7 @@ fn links_of<'a>(
     Ok(Links::Ordered(all))
 }
 
-/// Adds an instance, given its kind and the tokens behind that.
+/// Adds an instance, given its kind and the tokens after that.
 fn add_instance<'a>(
     alloc: Global,
     names: &Names<'a>,

@@ -1,9 +1,9 @@
 //! Kinds of token compared.
 
 ghost use Rattle.std.specs.Prelude.{◌≡◌};
-ghost use Rattle.sdc_model.specs.VerilogKinds as grammar;
+ghost use Rattle.netlist_model.specs.VerilogKinds as grammar;
 
-use sdc_model::VerilogToken;
+use source_types::VerilogToken;
 
 /// A number for each kind.
 fn kind_number(kind: VerilogToken) -> u8

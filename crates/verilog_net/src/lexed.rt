@@ -1,19 +1,19 @@
 //! The token that begins at a place of a text.
 
 ghost use Rattle.std.specs.Prelude.{◌≡◌, ◌<◌, ◌+◌, ◌∷◌, true, None, Some, [], drop, length, slice_index};
-ghost use Rattle.sdc_model.specs.Bytes.{is_digit};
-ghost use Rattle.sdc_model.specs.VerilogConstants.{is_digits_byte as is_digit_of_base};
-ghost use Rattle.sdc_model.specs.VerilogTokens as grammar;
+ghost use Rattle.text_model.specs.Bytes.{is_digit};
+ghost use Rattle.netlist_model.specs.VerilogConstants.{is_digits_byte as is_digit_of_base};
+ghost use Rattle.netlist_model.specs.VerilogTokens as grammar;
 ghost use Rattle.verilog_net.specs.Seen.{IsLexed, has_base_letter};
 
 use crate::bytes::{begins_word, is_base_letter, is_decimal, is_digits_byte, lower};
 use crate::numbers::{are_digits, number_kind};
 use crate::runs::{Run, byte_at, name_at, run_at};
 use crate::words::word_kind;
-use sdc_model::VerilogToken;
+use source_types::VerilogToken;
 
-/// A token: its kind, its text, the small letter where it is a base, and the place behind it.
-#[derive(Clone, Copy, Debug)]
+/// A token: its kind, its text, the small letter where it is a base, and the place after it.
+#[derive(Clone, Copy)]
 pub struct Lexed<'a> {
     pub kind: VerilogToken,
     pub text: &'a str,
@@ -58,7 +58,7 @@ fn number_token(text: &str, at: usize) -> Lexed<'_>
     plain(number_kind(number.as_bytes()), number, at + number.len())
 }
 
-/// The digits behind a base of a letter, whose first byte stands at a place.
+/// The digits after a base of a letter, whose first byte stands at a place.
 #[tactic(auto, using(crate::proofs::LexedFacts::digits_lexed))]
 fn digits_token(text: &str, at: usize, letter: u8) -> Lexed<'_>
     requires within { at < length text.now }
@@ -73,7 +73,7 @@ fn digits_token(text: &str, at: usize, letter: u8) -> Lexed<'_>
     )
 }
 
-/// The kind of digits behind a base of a letter.
+/// The kind of digits after a base of a letter.
 fn digits_kind(letter: u8, digits: &[u8]) -> VerilogToken
     ensures { result ≡ grammar.digits_kind letter digits.now }
 {
@@ -85,7 +85,7 @@ fn digits_kind(letter: u8, digits: &[u8]) -> VerilogToken
 }
 
 /// An escaped name, whose backslash stands at a place.
-#[tactic(auto, using(crate::proofs::LexedFacts::escaped_lexed, crate::proofs::LexedFacts::behind_backslash))]
+#[tactic(auto, using(crate::proofs::LexedFacts::escaped_lexed, crate::proofs::LexedFacts::after_backslash))]
 fn escaped_token(text: &str, at: usize) -> Lexed<'_>
     requires within { at < length text.now }
     requires first { slice_index text.now at ≡ 92 }
@@ -148,7 +148,7 @@ fn mark_token(text: &str, at: usize) -> Lexed<'_>
     plain(mark_kind(text.as_bytes()[at]), "", at + 1)
 }
 
-/// The token that begins at a place, which is not behind a base.
+/// The token that begins at a place, which is not after a base.
 fn plain_token(text: &str, at: usize) -> Lexed<'_>
     requires within { at < length text.now }
     ensures { IsLexed text.now at (grammar.plain_token (slice_index text.now at) (drop (at + 1) text.now)) result }
@@ -169,21 +169,21 @@ fn plain_token(text: &str, at: usize) -> Lexed<'_>
     mark_token(text, at)
 }
 
-/// The token that begins at a place, behind a base of a letter or not.
-pub fn token_behind(text: &str, at: usize, base: Option<u8>) -> Lexed<'_>
+/// The token that begins at a place, after a base of a letter or not.
+pub fn token_after(text: &str, at: usize, base: Option<u8>) -> Lexed<'_>
     requires within { at < length text.now }
-    ensures { IsLexed text.now at (grammar.token_behind base (slice_index text.now at) (drop (at + 1) text.now)) result }
+    ensures { IsLexed text.now at (grammar.token_after base (slice_index text.now at) (drop (at + 1) text.now)) result }
 {
     match base {
-        Some(letter) => behind_base(text, at, letter),
+        Some(letter) => after_base(text, at, letter),
         None => plain_token(text, at),
     }
 }
 
-/// The token that begins at a place behind a base of a letter.
-fn behind_base(text: &str, at: usize, letter: u8) -> Lexed<'_>
+/// The token that begins at a place after a base of a letter.
+fn after_base(text: &str, at: usize, letter: u8) -> Lexed<'_>
     requires within { at < length text.now }
-    ensures { IsLexed text.now at (grammar.token_behind (Some letter) (slice_index text.now at) (drop (at + 1) text.now)) result }
+    ensures { IsLexed text.now at (grammar.token_after (Some letter) (slice_index text.now at) (drop (at + 1) text.now)) result }
 {
     if is_digits_byte(text.as_bytes()[at]) {
         return digits_token(text, at, letter);

@@ -37,3 +37,4 @@ mod words;
 mod written;
 
 pub use read::read_verilog;
+pub use source_types::{Assign, Bit, Instance, Link, Links, Module, Port, Range, Wire};

@@ -3,7 +3,7 @@
 //! Each function here has want of memory as its one error.
 
 ghost use Rattle.std.specs.Prelude.{◌≡◌, All, map, IfOk};
-ghost use Rattle.sdc_model.specs.VerilogNets as spec;
+ghost use Rattle.netlist_model.specs.VerilogNets as spec;
 ghost use Rattle.verilog_net.specs.Modules.{written_seen};
 ghost use Rattle.verilog_net.specs.Names.{IsNamed, named_modules};
 
@@ -12,7 +12,7 @@ use crate::names::Named;
 use crate::nets::nets_of;
 use crate::ports::{port_names, ports_of};
 use sdc_base::{List, NoMemory, Text};
-use sdc_model::Module;
+use source_types::Module;
 use std::alloc::Global;
 
 /// What a module means.

@@ -5,8 +5,8 @@
 ghost use Rattle.std.specs.Prelude.{◌≡◌, ◌++◌, [], All, IfOk, OnOk, if◌then◌else◌};
 ghost use Rattle.std.specs.List.{AllByRecursion, before_first};
 ghost use Rattle.source_types.specs.declared.verilog_tokens.VerilogToken.TheVariants as kind;
-ghost use Rattle.sdc_model.specs.VerilogStatements as grammar;
-ghost use Rattle.sdc_model.specs.VerilogSyntax as syntax;
+ghost use Rattle.netlist_model.specs.VerilogStatements as grammar;
+ghost use Rattle.netlist_model.specs.VerilogSyntax as syntax;
 ghost use Rattle.verilog_net.specs.Names.{IsNamed, named_modules};
 ghost use Rattle.verilog_net.specs.Seen.{token_seen, tokens_seen};
 
@@ -14,12 +14,12 @@ use crate::declarations::is;
 use crate::names::{Named, names_of};
 use crate::parts::{before, cut};
 use crate::tokens::Token;
-use crate::written::module_behind;
+use crate::written::module_after;
 use sdc_base::NoMemory;
-use sdc_model::VerilogToken;
+use source_types::VerilogToken;
 use std::alloc::Global;
 
-/// Adds the module that a token begins with those behind it, if it is the keyword of one.
+/// Adds the module that a token begins with those after it, if it is the keyword of one.
 #[tactic(auto, using(crate::proofs::ModuleFacts::one_named))]
 fn add_module<'a>(
     alloc: Global,
@@ -41,7 +41,7 @@ fn add_module<'a>(
     let [name, header @ ..] = front else {
         return Ok(());
     };
-    let written = module_behind(alloc, name, header, statements, tokens)?;
+    let written = module_after(alloc, name, header, statements, tokens)?;
     let names = names_of(alloc, &written)?;
     found.push(Named { written, names })?;
     Ok(())

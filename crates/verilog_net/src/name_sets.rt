@@ -1,7 +1,7 @@
 //! Sets of names.
 
 ghost use Rattle.std.specs.Prelude.{◌≡◌, ◌∷◌, [], List, ℕ, OnOk};
-ghost use Rattle.sdc_model.specs.Words.{is_among};
+ghost use Rattle.text_model.specs.Words.{is_among};
 ghost use Rattle.verilog_net.specs.Contexts.{HasNames};
 
 use indexmap::IndexSet;

@@ -4,8 +4,8 @@ ghost use Rattle.std.specs.Prelude.{◌≡◌, List, ℕ, None, IfOk, OnOk};
 ghost use Rattle.std.specs.List.{find};
 ghost use Rattle.std.specs.Option.{option_map};
 ghost use Rattle.indexmap.specs.IndexMap.{get_by_text};
-ghost use Rattle.sdc_model.specs.VerilogNets as nets;
-ghost use Rattle.sdc_model.specs.VerilogStatements.{declarations};
+ghost use Rattle.netlist_model.specs.VerilogNets as nets;
+ghost use Rattle.netlist_model.specs.VerilogStatements.{declarations};
 ghost use Rattle.verilog_net.specs.Modules.{written_seen};
 ghost use Rattle.verilog_net.specs.Names.{IsTied, better, declarations_of, entry_seen, ports_only, with_entries, with_entry};
 ghost use Rattle.verilog_net.specs.Syntax.{declared_seen, declareds_seen};
@@ -14,7 +14,7 @@ use crate::declarations::{Declared, Role};
 use crate::written::{Written, declarations};
 use indexmap::IndexMap;
 use sdc_base::NoMemory;
-use sdc_model::Range;
+use source_types::Range;
 use std::alloc::Global;
 
 /// All that a module declares, and of each name the declaration that gives it its range.

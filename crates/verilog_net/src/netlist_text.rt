@@ -5,7 +5,7 @@ ghost use Rattle.verilog_net.specs.Recognition.{Recognises};
 use crate::recognition::broken_line;
 use crate::tokens::{Token, tokens_of};
 use sdc_base::{At, Stop};
-use sdc_model::VerilogKind;
+use source_types::VerilogKind;
 use std::alloc::Global;
 use text_lines::no_text_line;
 
@@ -13,9 +13,9 @@ use text_lines::no_text_line;
 /// here).
 ///
 /// Refused as `NotText` with the line of the first byte that is no UTF-8, and as `VerilogForm` with the line of the
-/// first token that no netlist has behind those before it, or of the last byte where the text ends too early. These
+/// first token that no netlist has after those before it, or of the last byte where the text ends too early. These
 /// stand before all other faults of a netlist.
-#[tactic(auto, using(crate::proofs::BreakFacts::no_text))]
+#[tactic(auto, using(crate::proofs::ErrorFacts::no_text))]
 pub fn netlist_tokens(alloc: Global, bytes: &[u8]) -> Result<Vec<Token<'_>>, Stop<At<VerilogKind>>>
     ensures { Recognises result bytes.now }
 {
@@ -30,7 +30,7 @@ pub fn netlist_tokens(alloc: Global, bytes: &[u8]) -> Result<Vec<Token<'_>>, Sto
 }
 
 /// The tokens of a text, refused as `netlist_tokens` refuses bytes that are one.
-#[tactic(auto, using(crate::proofs::BreakFacts::form_refused, crate::proofs::BreakFacts::whole))]
+#[tactic(auto, using(crate::proofs::ErrorFacts::form_refused, crate::proofs::ErrorFacts::whole))]
 fn text_tokens(alloc: Global, text: &str) -> Result<Vec<Token<'_>>, Stop<At<VerilogKind>>>
     ensures { Recognises result text.now }
 {

@@ -5,10 +5,10 @@
 ghost use Rattle.std.specs.Prelude.{◌≡◌, ◌++◌, ◌∷◌, [], List, ℕ, map, IfOk, OnOk};
 ghost use Rattle.std.specs.List.{filter_map, flat_map};
 ghost use Rattle.std.specs.Option.{option_map, option_to_list};
-ghost use Rattle.sdc_model.specs.VerilogNets as spec;
-ghost use Rattle.sdc_model.specs.VerilogStatements as grammar;
-ghost use Rattle.sdc_model.specs.VerilogSyntax as syntax;
-ghost use Rattle.sdc_model.specs.WellFormedNetlist.{net_of_port};
+ghost use Rattle.netlist_model.specs.VerilogNets as spec;
+ghost use Rattle.netlist_model.specs.VerilogStatements as grammar;
+ghost use Rattle.netlist_model.specs.VerilogSyntax as syntax;
+ghost use Rattle.netlist_model.specs.WellFormedNetlist.{net_of_port};
 ghost use Rattle.verilog_net.specs.Contexts.{HasNames};
 ghost use Rattle.verilog_net.specs.Names.{IsTied, declarations_of};
 ghost use Rattle.verilog_net.specs.Seen.{token_seen, tokens_seen};
@@ -22,11 +22,11 @@ use crate::pieces::Piece;
 use crate::statements::add_pieces_in;
 use crate::tokens::Token;
 use sdc_base::{Duplicate, List, NoMemory, Text};
-use sdc_model::{Port, Range, VerilogToken, Wire};
+use source_types::{Port, Range, VerilogToken, Wire};
 use std::alloc::Global;
 
 /// A net that is declared or used, by its name.
-#[derive(Clone, Copy, Debug)]
+#[derive(Clone, Copy)]
 pub struct Candidate<'a> {
     pub name: &'a str,
     pub range: Option<Range>,

@@ -2,12 +2,12 @@
 
 ghost use Rattle.std.specs.Prelude.{◌≡◌, ◌≤◌, ◌&&◌, nat_le, Some, None, IfSome, if◌then◌else◌};
 ghost use Rattle.source_types.specs.declared.verilog_tokens.VerilogToken.TheVariants as kind;
-ghost use Rattle.sdc_model.specs.VerilogConstants as grammar;
+ghost use Rattle.netlist_model.specs.VerilogConstants as grammar;
 
 use crate::bytes::{is_binary, is_decimal, is_hexadecimal, is_open_digit};
-use sdc_model::VerilogToken;
+use source_types::VerilogToken;
 
-/// The number behind one more digit; `_` only parts digits.
+/// The number after one more digit; `_` only parts digits.
 fn next_number(number: u64, byte: u8) -> u64
     requires { number ≤ 4294967295 }
     ensures { result ≡ grammar.next_number number byte }
@@ -119,7 +119,7 @@ fn go_on_nothing(digits: &[u8]) -> bool
     digits.iter().all(|digit| *digit == b'_')
 }
 
-/// Whether a digit and those behind it are decimal, or one digit that means no source.
+/// Whether a digit and those after it are decimal, or one digit that means no source.
 fn are_decimal(first: u8, rest: &[u8]) -> bool
     ensures { result ≡ grammar.are_decimal first rest.now }
 {
@@ -129,7 +129,7 @@ fn are_decimal(first: u8, rest: &[u8]) -> bool
     is_decimal(first) && go_on_decimal(rest)
 }
 
-/// Whether bytes are digits behind the letter of a base.
+/// Whether bytes are digits after the letter of a base.
 pub fn are_digits(letter: u8, digits: &[u8]) -> bool
     ensures { result ≡ grammar.are_digits letter digits.now }
 {

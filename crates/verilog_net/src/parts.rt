@@ -5,14 +5,14 @@
 ghost use Rattle.std.specs.Prelude.{◌≡◌, ◌≤◌, ◌<◌, ◌+◌, ◌-◌, ◌==◌, ◌&&◌, length, drop, take, IfOk};
 ghost use Rattle.std.specs.List.{after_first, before_first, slice_split};
 ghost use Rattle.source_types.specs.declared.verilog_tokens.VerilogToken.TheVariants as kind;
-ghost use Rattle.sdc_model.specs.VerilogSyntax as grammar;
+ghost use Rattle.netlist_model.specs.VerilogSyntax as grammar;
 ghost use Rattle.verilog_net.specs.Seen.{token_seen, tokens_seen};
 ghost use Rattle.verilog_net.specs.Syntax.{others_len, parts_seen};
 
 use crate::declarations::is;
 use crate::tokens::Token;
 use sdc_base::NoMemory;
-use sdc_model::VerilogToken;
+use source_types::VerilogToken;
 use std::alloc::Global;
 
 /// The number of tokens before the first one of a kind.
@@ -32,7 +32,7 @@ pub fn before<'a>(kind: VerilogToken, tokens: &'a [Token<'a>]) -> &'a [Token<'a>
     &tokens[..len]
 }
 
-/// The tokens behind the first one of a kind, or none where there is none.
+/// The tokens after the first one of a kind, or none where there is none.
 #[tactic(auto, using(crate::proofs::SliceFacts::after_taken, crate::proofs::SliceFacts::after_none))]
 pub fn after<'a>(kind: VerilogToken, tokens: &'a [Token<'a>]) -> &'a [Token<'a>]
     ensures { tokens_seen result.now ≡ after_first (grammar.is kind) (tokens_seen tokens.now) }
@@ -75,10 +75,10 @@ pub fn cut<'a>(
     Ok(parts)
 }
 
-/// The depth of brackets behind a token that stands at a depth.
-fn depth_behind(depth: usize, kind: VerilogToken) -> usize
+/// The depth of brackets after a token that stands at a depth.
+fn depth_after(depth: usize, kind: VerilogToken) -> usize
     requires { depth < 18446744073709551615 }
-    ensures is { result ≡ grammar.depth_behind depth kind }
+    ensures is { result ≡ grammar.depth_after depth kind }
     ensures few { result ≤ depth + 1 }
 {
     match kind {
@@ -114,7 +114,7 @@ pub fn parts_of<'a>(
             from = at + 1;
             continue;
         }
-        depth = depth_behind(depth, token.kind);
+        depth = depth_after(depth, token.kind);
     }
     parts.push(between(tokens, from, tokens.len()))?;
     Ok(parts)

@@ -5,18 +5,18 @@
 ghost use Rattle.std.specs.Prelude.{◌≡◌, ◌++◌, ◌∷◌, [], OnOk, if◌then◌else◌};
 ghost use Rattle.std.specs.Option.{option_to_list};
 ghost use Rattle.source_types.specs.declared.verilog_tokens.VerilogToken.TheVariants as kind;
-ghost use Rattle.sdc_model.specs.VerilogConstants as constants;
-ghost use Rattle.sdc_model.specs.VerilogSyntax as grammar;
+ghost use Rattle.netlist_model.specs.VerilogConstants as constants;
+ghost use Rattle.netlist_model.specs.VerilogSyntax as grammar;
 ghost use Rattle.verilog_net.specs.Seen.{token_seen, tokens_seen};
 ghost use Rattle.verilog_net.specs.Syntax.{piece_seen, pieces_seen};
 
 use crate::declarations::is;
 use crate::tokens::Token;
 use sdc_base::NoMemory;
-use sdc_model::VerilogToken;
+use source_types::VerilogToken;
 
 /// A part of what is connected or assigned, by its tokens, whose numbers are read where they are used.
-#[derive(Clone, Copy, Debug)]
+#[derive(Clone, Copy)]
 pub enum Piece<'a> {
     /// A net, by its name.
     Whole(Token<'a>),
@@ -28,7 +28,7 @@ pub enum Piece<'a> {
     Constant(Token<'a>, Token<'a>, Token<'a>),
 }
 
-/// The bit or the part of a net that is selected, given the tokens behind the first index.
+/// The bit or the part of a net that is selected, given the tokens after the first index.
 fn selected<'a>(name: &Token<'a>, left: &Token<'a>, rest: &'a [Token<'a>]) -> Piece<'a>
     ensures { piece_seen result ≡ grammar.selected (token_seen name.now) (constants.number_of left.now.text.now) (tokens_seen rest.now) }
 {
@@ -44,7 +44,7 @@ fn selected<'a>(name: &Token<'a>, left: &Token<'a>, rest: &'a [Token<'a>]) -> Pi
     }
 }
 
-/// A net, by its name and the tokens behind it.
+/// A net, by its name and the tokens after it.
 fn net_piece<'a>(name: &Token<'a>, rest: &'a [Token<'a>]) -> Piece<'a>
     ensures { piece_seen result ≡ grammar.net_piece (token_seen name.now) (tokens_seen rest.now) }
 {
@@ -60,7 +60,7 @@ fn net_piece<'a>(name: &Token<'a>, rest: &'a [Token<'a>]) -> Piece<'a>
     }
 }
 
-/// A constant, by its size and the tokens behind it; a number before no base is an index.
+/// A constant, by its size and the tokens after it; a number before no base is an index.
 fn constant_piece<'a>(size: &Token<'a>, rest: &'a [Token<'a>]) -> Option<Piece<'a>>
     ensures { pieces_seen (option_to_list result) ≡ grammar.constant_piece (token_seen size.now) (tokens_seen rest.now) }
 {

@@ -5,8 +5,8 @@
 ghost use Rattle.std.specs.Prelude.{◌≡◌, ◌++◌, map, IfOk, OnOk};
 ghost use Rattle.std.specs.List.{filter_map};
 ghost use Rattle.std.specs.Option.{option_to_list};
-ghost use Rattle.sdc_model.specs.VerilogNets as spec;
-ghost use Rattle.sdc_model.specs.VerilogSyntax as syntax;
+ghost use Rattle.netlist_model.specs.VerilogNets as spec;
+ghost use Rattle.netlist_model.specs.VerilogSyntax as syntax;
 ghost use Rattle.verilog_net.specs.Modules.{written_seen};
 ghost use Rattle.verilog_net.specs.Names.{IsTied, declarations_of};
 ghost use Rattle.verilog_net.specs.Seen.{tokens_seen};
@@ -18,7 +18,7 @@ use crate::names::Names;
 use crate::tokens::Token;
 use crate::written::Written;
 use sdc_base::{List, NoMemory, Text};
-use sdc_model::Port;
+use source_types::Port;
 use std::alloc::Global;
 
 /// Adds the names of declarations.

@@ -2,8 +2,8 @@
 
 ghost use Rattle.std.specs.Prelude.{◌≡◌, All};
 ghost use Rattle.sdc_base.specs.Gives.{Gives, Meets};
-ghost use Rattle.sdc_model.specs.Verilog.{ReadsVerilog, meant};
-ghost use Rattle.sdc_model.specs.VerilogStatements as grammar;
+ghost use Rattle.netlist_model.specs.Verilog.{ReadsVerilog, meant};
+ghost use Rattle.netlist_model.specs.VerilogStatements as grammar;
 ghost use Rattle.verilog_net.specs.Names.{IsNamed, named_modules};
 ghost use Rattle.verilog_net.specs.Seen.{tokens_seen};
 
@@ -14,13 +14,13 @@ use crate::names::Named;
 use crate::netlist_text::netlist_tokens;
 use crate::tokens::Token;
 use sdc_base::{At, List, Stop};
-use sdc_model::{Module, VerilogKind};
+use source_types::{Module, VerilogKind};
 use std::alloc::Global;
 
 /// The modules of a file's bytes (IEEE 1364-2005, in the part of the language that is read here).
 ///
 /// Refused as `NotText` with the line of the first byte that is no UTF-8; as `VerilogForm` with the line of the first
-/// token that no netlist has behind those before it, or of the last byte where the text ends too early; else with the
+/// token that no netlist has after those before it, or of the last byte where the text ends too early; else with the
 /// first of the other faults by their places in the text, on its line. What is read and what is refused is this
 /// project's own rule.
 #[tactic(auto, using(crate::proofs::ReadFacts::netlist_read))]

@@ -1,18 +1,18 @@
-//! Whether tokens are a netlist, and else on which line they break.
+//! Whether tokens are a netlist, and else on which line their first syntax error is.
 
 ghost use Rattle.std.specs.Prelude.{◌≡◌, IfOk, slice_get};
-ghost use Rattle.sdc_model.specs.Verilog.{line_of};
-ghost use Rattle.verilog_net.specs.Recognition.{BreaksOn};
+ghost use Rattle.netlist_model.specs.Verilog.{line_of};
+ghost use Rattle.verilog_net.specs.Recognition.{ErrorIsOn};
 ghost use Rattle.verilog_net.specs.Seen.{tokens_seen};
 
 use crate::contexts::kinds_of;
 use crate::grammar::Netlists;
 use crate::tokens::Token;
 use sdc_base::NoMemory;
-use sdc_model::VerilogSymbol;
+use source_types::VerilogSymbol;
 use std::alloc::Global;
 use text_lines::last_line;
-use token_grammar::{Break, first_break};
+use token_grammar::{SyntaxError, first_error};
 
 /// The line of the token at a place, and 1 where none stands there.
 #[tactic(auto, using(crate::proofs::TokenFacts::seen_at))]
@@ -25,17 +25,18 @@ fn token_line(tokens: &[Token<'_>], place: usize) -> u32
     }
 }
 
-/// The line on which the tokens of a text break, or `None` where they are a netlist: that of the first token that no
-/// netlist has behind those before it, or of the last byte where the text ends too early. The one error is want of
+/// The line of the first syntax error in the tokens of a text, or `None` where they are a netlist: that of the
+/// first token that no
+/// netlist has after those before it, or of the last byte where the text ends too early. The one error is want of
 /// memory.
-#[tactic(auto, using(crate::proofs::BreakFacts::breaks_on))]
+#[tactic(auto, using(crate::proofs::ErrorFacts::error_is_on))]
 pub fn broken_line(alloc: Global, text: &str, tokens: &[Token<'_>]) -> Result<Option<u32>, NoMemory>
-    ensures { IfOk result (BreaksOn text.now (tokens_seen tokens.now)) }
+    ensures { IfOk result (ErrorIsOn text.now (tokens_seen tokens.now)) }
 {
     let kinds = kinds_of(alloc, tokens)?;
-    match first_break::<Netlists>(alloc, VerilogSymbol::Source, kinds.as_slice())? {
+    match first_error::<Netlists>(alloc, VerilogSymbol::Source, kinds.as_slice())? {
         None => Ok(None),
-        Some(Break::Token(place)) => Ok(Some(token_line(tokens, place))),
-        Some(Break::End) => Ok(Some(last_line(text.as_bytes()))),
+        Some(SyntaxError::Token(place)) => Ok(Some(token_line(tokens, place))),
+        Some(SyntaxError::End) => Ok(Some(last_line(text.as_bytes()))),
     }
 }

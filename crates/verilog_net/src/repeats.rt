@@ -6,11 +6,11 @@ ghost use Rattle.std.specs.Prelude.{◌≡◌, ◌++◌, ◌∷◌, ◌&&◌, �
 ghost use Rattle.std.specs.List.{filter};
 ghost use Rattle.std.specs.Option.{option_map};
 ghost use Rattle.indexmap.specs.IndexMap.{get_by_text};
-ghost use Rattle.sdc_model.specs.Ranges as ranges;
-ghost use Rattle.sdc_model.specs.Verilog as spec;
-ghost use Rattle.sdc_model.specs.VerilogNets as nets;
-ghost use Rattle.sdc_model.specs.VerilogSyntax as syntax;
-ghost use Rattle.sdc_model.specs.Words.{is_among};
+ghost use Rattle.netlist_model.specs.Ranges as ranges;
+ghost use Rattle.netlist_model.specs.Verilog as spec;
+ghost use Rattle.netlist_model.specs.VerilogNets as nets;
+ghost use Rattle.netlist_model.specs.VerilogSyntax as syntax;
+ghost use Rattle.text_model.specs.Words.{is_among};
 ghost use Rattle.verilog_net.specs.Contexts.{HasNames};
 ghost use Rattle.verilog_net.specs.Faults.{HasEarlier, earlier_seen, is_second_of, one_later};
 ghost use Rattle.verilog_net.specs.Seen.{token_seen, tokens_seen};
@@ -22,7 +22,7 @@ use crate::names::is_port;
 use crate::tokens::Token;
 use indexmap::IndexMap;
 use sdc_base::NoMemory;
-use sdc_model::Range;
+use source_types::Range;
 use std::alloc::Global;
 
 /// Adds a name, if it is in a set.
@@ -40,7 +40,7 @@ fn add_repeated<'a>(
     Ok(())
 }
 
-/// Each of some names that stands behind the same name.
+/// Each of some names that stands after the same name.
 #[tactic(auto, using(crate::proofs::RepeatFacts::none_repeated, crate::proofs::RepeatFacts::all_repeated))]
 pub fn repeated<'a>(alloc: Global, names: &[Token<'a>]) -> Result<Vec<Token<'a>>, NoMemory>
     ensures { IfOk result (λ found. tokens_seen found.items ≡ spec.repeated [] (tokens_seen names.now)) }
@@ -55,7 +55,7 @@ pub fn repeated<'a>(alloc: Global, names: &[Token<'a>]) -> Result<Vec<Token<'a>>
 }
 
 /// The first declaration of a name, and whether there are more.
-#[derive(Clone, Copy, Debug)]
+#[derive(Clone, Copy)]
 pub struct Earlier<'a> {
     pub first: Declared<'a>,
     pub more: bool,
@@ -121,7 +121,7 @@ fn are_one(first: &Declared<'_>, second: &Declared<'_>) -> bool
     are_of_both(first, second) && width(first.range) == width(second.range)
 }
 
-/// Whether a declaration is a second one behind those that are known of its name.
+/// Whether a declaration is a second one after those that are known of its name.
 fn is_second(known: Option<Earlier<'_>>, declared: &Declared<'_>) -> bool
     ensures { result ≡ is_second_of (option_map earlier_seen known.entry) (declared_seen declared.now) }
 {
@@ -131,7 +131,7 @@ fn is_second(known: Option<Earlier<'_>>, declared: &Declared<'_>) -> bool
     }
 }
 
-/// What is known of a name behind one more declaration.
+/// What is known of a name after one more declaration.
 fn one_later<'a>(known: Option<Earlier<'a>>, declared: &Declared<'a>) -> Earlier<'a>
     ensures { earlier_seen result ≡ one_later (option_map earlier_seen known.entry) (declared_seen declared.now) }
 {

@@ -3,19 +3,19 @@
 ghost use Rattle.std.specs.Prelude.{◌≡◌, ◌≤◌, ◌<◌, ◌+◌, true, drop, length, not, slice_index, take, ◌∷◌, []};
 ghost use Rattle.std.specs.List.{prefix_len};
 ghost use Rattle.std.specs.Str.{IsCharBoundary};
-ghost use Rattle.sdc_model.specs.VerilogTokens as grammar;
+ghost use Rattle.netlist_model.specs.VerilogTokens as grammar;
 ghost use Rattle.verilog_net.specs.Runs.{test_of};
 
 use crate::bytes::{is_blank, is_digits_byte, is_number_byte, is_word_byte};
 
 /// A kind of bytes that stand in a run, all of them ASCII.
-#[derive(Clone, Copy, Debug)]
+#[derive(Clone, Copy)]
 pub enum Run {
     /// A name or a keyword.
     Word,
     /// A number.
     Number,
-    /// The digits behind a base.
+    /// The digits after a base.
     Digits,
 }
 

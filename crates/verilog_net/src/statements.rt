@@ -5,10 +5,10 @@
 
 ghost use Rattle.std.specs.Prelude.{◌≡◌, ◌++◌, ◌∷◌, ◌-◌, [], length, map, take, IfOk, OnOk, List};
 ghost use Rattle.std.specs.List.{flat_map};
-ghost use Rattle.sdc_model.specs.VerilogNets as nets;
-ghost use Rattle.sdc_model.specs.VerilogStatements as grammar;
-ghost use Rattle.sdc_model.specs.VerilogSyntax as syntax;
-ghost use Rattle.sdc_model.specs.VerilogTokens as lexical;
+ghost use Rattle.netlist_model.specs.VerilogNets as nets;
+ghost use Rattle.netlist_model.specs.VerilogStatements as grammar;
+ghost use Rattle.netlist_model.specs.VerilogSyntax as syntax;
+ghost use Rattle.netlist_model.specs.VerilogTokens as lexical;
 ghost use Rattle.verilog_net.specs.Seen.{token_seen, tokens_seen};
 ghost use Rattle.verilog_net.specs.Syntax.{declareds_seen, parts_seen, pieces_seen};
 
@@ -17,7 +17,7 @@ use crate::parts::{after, before, parts_of};
 use crate::pieces::{Piece, add_net_pieces, add_pieces};
 use crate::tokens::Token;
 use sdc_base::NoMemory;
-use sdc_model::VerilogToken;
+use source_types::VerilogToken;
 use std::alloc::Global;
 
 /// Adds what a statement declares.
@@ -109,7 +109,7 @@ fn add_connected<'a>(
     }
 }
 
-/// The tokens before the last one: those in parentheses, given those behind the opening one.
+/// The tokens before the last one: those in parentheses, given those after the opening one.
 #[tactic(auto, using(crate::proofs::SliceFacts::inner_taken))]
 pub fn inner<'a>(tokens: &'a [Token<'a>]) -> &'a [Token<'a>]
     ensures { tokens_seen result.now ≡ take (length (tokens_seen tokens.now) - 1) (tokens_seen tokens.now) }
@@ -117,7 +117,7 @@ pub fn inner<'a>(tokens: &'a [Token<'a>]) -> &'a [Token<'a>]
     &tokens[..tokens.len().saturating_sub(1)]
 }
 
-/// Adds the pieces of an instance, given its kind and the tokens behind that.
+/// Adds the pieces of an instance, given its kind and the tokens after that.
 fn add_placed<'a>(
     alloc: Global,
     kind: &Token<'a>,

@@ -5,11 +5,11 @@
 ghost use Rattle.std.specs.Prelude.{◌≡◌, ◌≤◌, ◌++◌, ◌==◌, ◌&&◌, ◌+◌, ◌^◌, ◌⊎◌, ◌∷◌, [], length, map, not, nat_le, true, IfOk, OnErr, OnOk, if◌then◌else◌};
 ghost use Rattle.std.specs.List.{flat_map, list_any};
 ghost use Rattle.std.specs.Option.{option_to_list};
-ghost use Rattle.sdc_model.specs.VerilogConstants as constants;
-ghost use Rattle.sdc_model.specs.Verilog as spec;
-ghost use Rattle.sdc_model.specs.VerilogNets as nets;
-ghost use Rattle.sdc_model.specs.VerilogStatements as grammar;
-ghost use Rattle.sdc_model.specs.VerilogSyntax.{parts_of as parts_of_tokens};
+ghost use Rattle.netlist_model.specs.VerilogConstants as constants;
+ghost use Rattle.netlist_model.specs.Verilog as spec;
+ghost use Rattle.netlist_model.specs.VerilogNets as nets;
+ghost use Rattle.netlist_model.specs.VerilogStatements as grammar;
+ghost use Rattle.netlist_model.specs.VerilogSyntax.{parts_of as parts_of_tokens};
 ghost use Rattle.verilog_net.specs.Names.{AreOverlong, IsTied, declarations_of, has_long, len_of};
 ghost use Rattle.verilog_net.specs.Seen.{token_seen, tokens_seen};
 ghost use Rattle.verilog_net.specs.Syntax.{parts_seen, piece_seen, pieces_seen};
@@ -22,7 +22,7 @@ use crate::pieces::{Piece, add_net_pieces, add_pieces};
 use crate::repeats::{span, width};
 use crate::tokens::Token;
 use sdc_base::NoMemory;
-use sdc_model::{Range, VerilogToken};
+use source_types::{Range, VerilogToken};
 use std::alloc::Global;
 
 /// Whether an index is in a range.

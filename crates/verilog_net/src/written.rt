@@ -4,7 +4,7 @@
 
 ghost use Rattle.std.specs.Prelude.{◌≡◌, ◌++◌, ◌∷◌, [], map, IfOk, OnOk};
 ghost use Rattle.std.specs.List.{flat_map};
-ghost use Rattle.sdc_model.specs.VerilogStatements as grammar;
+ghost use Rattle.netlist_model.specs.VerilogStatements as grammar;
 ghost use Rattle.verilog_net.specs.Modules.{written_seen};
 ghost use Rattle.verilog_net.specs.Seen.{token_seen, tokens_seen};
 ghost use Rattle.verilog_net.specs.Syntax.{declareds_seen, parts_seen};
@@ -13,7 +13,7 @@ use crate::declarations::{Declared, add_header_declares, add_header_lists, add_k
 use crate::statements::add_declared_by;
 use crate::tokens::Token;
 use sdc_base::NoMemory;
-use sdc_model::VerilogToken;
+use source_types::VerilogToken;
 use std::alloc::Global;
 
 /// A module as it is written: its name, the ports that its header declares and those that it only lists, the tokens of
@@ -28,7 +28,7 @@ pub struct Written<'a> {
 }
 
 /// The module of a name, given the tokens of its header, those of each statement, and all of its tokens.
-pub fn module_behind<'a>(
+pub fn module_after<'a>(
     alloc: Global,
     name: &Token<'a>,
     header: &'a [Token<'a>],

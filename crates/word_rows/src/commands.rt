@@ -1,29 +1,29 @@
 //! Commands of small texts, as a reader of the Tcl rules splits them by hand.
-//! A word is shown by its parts: a text in `'`, a variable behind `$`, a script in brackets.
+//! A word is shown by its parts: a text in `'`, a variable after `$`, a script in brackets.
 
 use sdc_base::{At, List, NoMemory, Stop};
-use sdc_model::{Command, Next, Part, Word};
+use source_types::{Command, Next, Part, Word};
 use std::alloc::Global;
 use std::test::Fail;
 use tcl_words::{next_command, split};
 
-/// A word by its parts, behind a blank.
+/// A word by its parts, after a blank.
 fn show_word(shown: &mut String, word: &Word) -> Result<(), NoMemory> {
     shown.push_str(" ")?;
     for part in word.parts.iter() {
-        let (before, text, behind) = match part {
+        let (before, text, after) = match part {
             Part::Text(text) => ("'", text, "'"),
             Part::Variable(name) => ("$", name, ""),
             Part::Script(script) => ("[", script, "]"),
         };
         shown.push_str(before)?;
         shown.push_str(text.as_str())?;
-        shown.push_str(behind)?;
+        shown.push_str(after)?;
     }
     Ok(())
 }
 
-/// Each command with its line before it and a bar behind it.
+/// Each command with its line before it and a bar after it.
 fn show_commands(alloc: Global, commands: &List<Command>) -> Result<String, NoMemory> {
     let mut shown = String::new(alloc);
     for command in commands.iter() {
@@ -37,7 +37,7 @@ fn show_commands(alloc: Global, commands: &List<Command>) -> Result<String, NoMe
     Ok(shown)
 }
 
-/// The commands of a text, or the line of its fault behind the kind.
+/// The commands of a text, or the line of its fault after the kind.
 fn show_split(alloc: Global, text: &str) -> Result<String, NoMemory> {
     match split(alloc, text) {
         Ok(commands) => show_commands(alloc, &commands),
@@ -59,7 +59,7 @@ pub fn unlike(alloc: Global, rows: &[(&str, &str)]) -> Result<String, NoMemory> 
     Ok(all)
 }
 
-/// The lines of the next command and behind it, and where it ends.
+/// The lines of the next command and after it, and where it ends.
 fn lines_and_end(found: &Option<Next>) -> Option<(u32, u32, usize)> {
     match found {
         None => None,
@@ -68,7 +68,7 @@ fn lines_and_end(found: &Option<Next>) -> Option<(u32, u32, usize)> {
 }
 
 #[test]
-fn one_command_behind_the_other(rt: HostRuntime) -> Result<(), Fail> {
+fn one_command_after_the_other(rt: HostRuntime) -> Result<(), Fail> {
     let text = " a;\n\n b {c\n} \nd";
     let first = next_command(rt.alloc(), text, 0, 1)?;
     assert_eq!(rt; lines_and_end(&first), Some((1, 1, 2)));

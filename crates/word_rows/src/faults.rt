@@ -34,7 +34,7 @@ fn what_has_no_end(rt: HostRuntime) -> Result<(), Fail> {
 }
 
 #[test]
-fn text_behind_a_closed_word(rt: HostRuntime) -> Result<(), Fail> {
+fn text_after_a_closed_word(rt: HostRuntime) -> Result<(), Fail> {
     let unlike = unlike(
         rt.alloc(),
         &[

@@ -60,7 +60,7 @@ fn continued_lines(rt: HostRuntime) -> Result<(), Fail> {
             ("a \"b\"\\\r\nc", "1 'a' 'b' 'c'|"),
             ("a\\\n;b", "1 'a'|2 'b'|"),
             ("a\\\n\nb", "1 'a'|3 'b'|"),
-            // in braces and quotes: one blank with the blanks behind it
+            // in braces and quotes: one blank with the blanks after it
             ("{a\\\n \t\rb}", "1 'a b'|"),
             ("{a\\\r\nb}", "1 'a b'|"),
             ("\"a\\\n  b\"", "1 'a b'|"),

@@ -6,7 +6,7 @@ use std::alloc::Global;
 use std::test::Fail;
 use tcl_words::{list_items, list_text};
 
-/// The items of a list, one behind the other.
+/// The items of a list, one after the other.
 fn show_items(alloc: Global, items: &List<Text>) -> Result<String, NoMemory> {
     let mut shown = String::new(alloc);
     for item in items.iter() {

@@ -1,6 +1,6 @@
 use Rattle.std.proofs.Common.{◌≡◌, ◌∙◌, length, arith, sym, ap}
 use Rattle.clock_map.proofs.PlainMaps.{is_map, length-standings_of, length-identities_of}
-use Rattle.sdc_model.specs.PlainViews.{clock_count}
+use Rattle.merge_model.specs.PlainViews.{clock_count}
 use Rattle.clock_map.proofs.SharedClocks.{apart, zip_length}
 use Rattle.clock_map.proofs.map_clocks.Goals as goal
 

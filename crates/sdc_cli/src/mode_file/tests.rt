@@ -5,10 +5,11 @@ mod groups;
 
 use super::read_mode;
 use sdc_base::{At, NoMemory, Stop};
-use sdc_model::{Form, Kind, Mode};
+use source_types::Kind;
 use std::alloc::Global;
 use std::process::Abort;
 use std::test::Fail;
+use timing_types::{Form, Mode};
 
 /// Each clock with its period and its edges, and each exclusive pair.
 fn show_mode(alloc: Global, mode: &Mode) -> Result<String, NoMemory> {
@@ -55,10 +56,7 @@ static NO_TEXTS: [(&[u8], u32); 3] = [
 fn bytes_that_are_no_text(rt: HostRuntime) -> Result<(), Fail> {
     for (bytes, wanted) in NO_TEXTS.iter() {
         let read = read_mode(rt.alloc(), bytes, 16384);
-        assert!(rt;
-            is_no_text(&read, *wanted),
-            "the fault of line {wanted}: {read:?}"
-        );
+        assert!(rt; is_no_text(&read, *wanted), "the fault of line {wanted}");
     }
     Ok(())
 }

@@ -5,7 +5,7 @@ use crate::operations::{changed, decided, joined};
 use crate::parsing::parse_expression;
 use crate::values::{computed, text_of};
 use sdc_base::{Duplicate, NoMemory, Stop};
-use sdc_model::{BinaryOperator, Expression, ExpressionStep, Part, Scalar, TclKind, Word};
+use source_types::{BinaryOperator, Expression, ExpressionStep, Part, Scalar, TclKind, Word};
 use std::alloc::Global;
 use std::test::Fail;
 
@@ -25,7 +25,7 @@ fn word_value(alloc: Global, word: &Word) -> Result<Scalar, Stop<TclKind>> {
     }
 }
 
-/// How many operators are to come behind a step that is passed over.
+/// How many operators are to come after a step that is passed over.
 fn passing(step: &ExpressionStep, passed: u32) -> u32 {
     match step {
         ExpressionStep::Decide(_) => passed.saturating_add(1),

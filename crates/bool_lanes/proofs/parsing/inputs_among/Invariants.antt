@@ -1,5 +1,5 @@
 use Rattle.std.proofs.Common.{◌≡◌, drop}
-use Rattle.sdc_model.specs.FunctionMeaning.{inputs_among, with_inputs}
+use Rattle.function_model.specs.FunctionMeaning.{inputs_among, with_inputs}
 use Rattle.bool_lanes.proofs.parsing.inputs_among.Given as goal
 
 abbrev pub invariant-loop-pin : goal.invariant-loop-pin

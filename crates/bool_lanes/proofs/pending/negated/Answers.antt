@@ -1,6 +1,6 @@
 use Rattle.std.proofs.Common.{◌≡◌, ◌+◌, ◌∷◌, drop, drop-cons, get_or, add-one, subst, sym}
-use Rattle.source_types.specs.declared.functions.Expr.TheVariants as expr
-use Rattle.sdc_model.specs.FunctionText.{negated}
+use Rattle.pin_types.specs.declared.functions.Expr.TheVariants as expr
+use Rattle.function_model.specs.FunctionText.{negated}
 use Rattle.bool_lanes.proofs.pending.negated.Goals as goal
 
 pub loop-negation-preserved : goal.loop-negation-preserved

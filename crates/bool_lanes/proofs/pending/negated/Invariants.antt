@@ -1,5 +1,5 @@
 use Rattle.std.proofs.Common.{◌≡◌, drop}
-use Rattle.sdc_model.specs.FunctionText.{negated}
+use Rattle.function_model.specs.FunctionText.{negated}
 use Rattle.bool_lanes.proofs.pending.negated.Given as goal
 
 abbrev pub invariant-loop-negation : goal.invariant-loop-negation

@@ -1,6 +1,6 @@
 use Rattle.std.proofs.Common.{◌≡◌, drop}
 use Rattle.std.specs.Prelude.{option_and_then}
-use Rattle.sdc_model.specs.FunctionText.{ended, expression, steps}
+use Rattle.function_model.specs.FunctionText.{ended, expression, steps}
 use Rattle.bool_lanes.specs.Readings.{seen}
 use Rattle.bool_lanes.proofs.reading.expression.Given as goal
 

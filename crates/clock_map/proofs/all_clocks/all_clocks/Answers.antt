@@ -1,5 +1,5 @@
 use Rattle.std.proofs.Common.{◌∙◌, ◌++◌, ap}
-use Rattle.sdc_model.specs.ClockIdentity.{identities_among}
+use Rattle.merge_model.specs.ClockIdentity.{identities_among}
 use Rattle.clock_map.proofs.ClockLists.{primary_mode, waves_of_mode, clocks_step}
 use Rattle.clock_map.proofs.all_clocks.all_clocks.Goals as goal
 

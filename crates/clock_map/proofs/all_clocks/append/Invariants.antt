@@ -1,4 +1,4 @@
--- The items that were taken stand behind those that were there.
+-- The items that were taken stand after those that were there.
 use Rattle.std.proofs.Common.{◌≡◌, ◌++◌}
 use Rattle.clock_map.proofs.all_clocks.append.Given as goal
 

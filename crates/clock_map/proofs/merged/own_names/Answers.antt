@@ -1,7 +1,7 @@
 use Rattle.std.proofs.Common.{◌≤◌, ℕ, List, length, subst}
 use Rattle.std.proofs.lemmas.List.{take_all}
 use Rattle.timing_types.specs.declared.identities.Standing.{Standing}
-use Rattle.sdc_model.specs.ClockIdentity.{names_of}
+use Rattle.merge_model.specs.ClockIdentity.{names_of}
 use Rattle.clock_map.specs.MergedClocks.{HaveSameNames, HasOneMore}
 use Rattle.clock_map.proofs.NameSets.{one_more, names_step}
 use Rattle.clock_map.proofs.merged.own_names.Goals as goal

@@ -1,6 +1,6 @@
 -- The set has the names of the clocks so far.
 use Rattle.std.proofs.Common.{take}
-use Rattle.sdc_model.specs.ClockIdentity.{names_of}
+use Rattle.merge_model.specs.ClockIdentity.{names_of}
 use Rattle.clock_map.specs.MergedClocks.{HaveSameNames}
 use Rattle.clock_map.proofs.merged.own_names.Given as goal
 

@@ -1,6 +1,6 @@
 use Rattle.std.proofs.Common.{◌<◌, ◌^◌, ℕ, List, arith, sym, ◌∙◌, subst}
 use Rattle.std.proofs.lemmas.Bool.{false≢true}
-use Rattle.sdc_model.specs.ClockIdentity.{numbered_name}
+use Rattle.merge_model.specs.ClockIdentity.{numbered_name}
 use Rattle.clock_map.specs.MergedClocks.{IsTaken}
 use Rattle.clock_map.proofs.NameLists.{few_taken, taken_more, is_free}
 use Rattle.clock_map.proofs.names.free_name.Goals as goal

@@ -1,6 +1,6 @@
 -- The name has the number, and the names with lesser numbers are taken.
 use Rattle.std.proofs.Common.{◌≡◌, ◌+◌, ◌-◌, ◌≤◌, length}
-use Rattle.sdc_model.specs.ClockIdentity.{numbered_name}
+use Rattle.merge_model.specs.ClockIdentity.{numbered_name}
 use Rattle.clock_map.proofs.NameLists.{TakenBelow}
 use Rattle.clock_map.proofs.names.free_name.Given as goal
 

@@ -1,6 +1,6 @@
 -- The clocks so far are primary.
 use Rattle.std.proofs.Common.{take}
-use Rattle.sdc_model.specs.PlainViews.{ArePrimary}
+use Rattle.merge_model.specs.PlainViews.{ArePrimary}
 use Rattle.clock_map.proofs.plain_views.are_primary.Given as goal
 
 abbrev pub invariant-loop-clock : goal.invariant-loop-clock

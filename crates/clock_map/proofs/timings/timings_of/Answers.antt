@@ -1,7 +1,7 @@
 use Rattle.std.proofs.Common.{◌<◌, ◌≤◌, List, ℕ, length, arith, sym, subst}
-use Rattle.sdc_model.specs.Exclusive.{IsApart}
+use Rattle.constraint_model.specs.ListOrder.{HasEachOnce}
 use Rattle.clock_map.specs.Timings.{ArePlaces}
-use Rattle.clock_map.proofs.TimingLists.{apart_at, timings_step, timings_done}
+use Rattle.clock_map.proofs.TimingLists.{distinct_at, timings_step, timings_done}
 use Rattle.clock_map.proofs.timings.timings_of.Goals as goal
 
 pub places_of-requires : goal.places_of-requires
@@ -9,8 +9,8 @@ places_of-requires c =
     let at = c.loop-at.at in
     let beside = c.requires.beside in
     let within : at < length c.args.modes.now = rw c.as_slice-view-items.ensures at c.loop-at-test.true in
-    subst IsApart (sym c.in_ok-numbers.ensures)
-    (apart_at c.args.maps.now at c.index-maps-at.result c.requires.apart (omega arith) (rw c.as_slice-maps.ensures at c.index-maps-at.is))
+    subst HasEachOnce (sym c.in_ok-numbers.ensures)
+    (distinct_at c.args.maps.now at c.index-maps-at.result c.requires.apart (omega arith) (rw c.as_slice-maps.ensures at c.index-maps-at.is))
 
 pub loop-at-preserved : goal.loop-at-preserved
 loop-at-preserved c =

@@ -2,8 +2,8 @@ use Rattle.std.proofs.Common.{◌≡◌, ℕ, zero, suc, ◌*◌, ◌/◌, ◌<�
 use Rattle.std.proofs.Math.Nat.{div-mul_cancel}
 use Rattle.std.proofs.lemmas.Int.{ints}
 use Rattle.std.specs.Int.{IsGcd}
-use Rattle.sdc_model.specs.Relation.{IsEdgeOf, IsRelation}
-use Rattle.clock_tree.proofs.Gaps.{IsRelation-from_shifted}
+use Rattle.timing_model.specs.Relation.{IsEdgeOf, IsRelation}
+use Rattle.clock_tree.proofs.Separations.{IsRelation-from_shifted}
 use Rattle.clock_tree.proofs.edge_laws.relation_of_edges_at_one_time.Goals as goal
 
 divides_some : (k g p : ℕ) → k * g ≡ p → 0 < p → 0 < g

@@ -1,8 +1,8 @@
 use Rattle.std.proofs.Common.{ℤ, pos, negsuc, arith}
 use Rattle.std.proofs.lemmas.Int.{ints}
 use Rattle.std.proofs.lemmas.Nat.Gcd.{dvd_refl}
-use Rattle.sdc_model.specs.Relation.{IsEdgeOf, IsRelation}
-use Rattle.clock_tree.proofs.Gaps.{IsRelation-from_shifted}
+use Rattle.timing_model.specs.Relation.{IsEdgeOf, IsRelation}
+use Rattle.clock_tree.proofs.Separations.{IsRelation-from_shifted}
 use Rattle.clock_tree.proofs.edge_laws.relation_of_equal_edges.Goals as goal
 
 equal_edges : (a p : ℤ) → IsEdgeOf a p → IsRelation a p a p (record { setup = p; hold = pos 0 })

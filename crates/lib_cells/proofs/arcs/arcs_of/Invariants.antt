@@ -1,6 +1,6 @@
 use Rattle.std.proofs.Common.{◌≡◌, [], drop, map}
 use Rattle.std.specs.List.{filter_map, fold}
-use Rattle.sdc_model.specs.LibertyArcs as liberty
+use Rattle.library_model.specs.LibertyArcs as liberty
 use Rattle.lib_cells.specs.Pairs.{HasPairs}
 use Rattle.lib_cells.specs.RelatedPins.{related_seen}
 use Rattle.lib_cells.proofs.arcs.arcs_of.Given as goal

@@ -1,5 +1,5 @@
 use Rattle.std.proofs.Common.{◌≡◌, ◌++◌, drop, map}
-use Rattle.sdc_model.specs.LibertyCells.{NamedPin}
+use Rattle.library_model.specs.LibertyCells.{NamedPin}
 use Rattle.lib_cells.proofs.cell_names.add_pin_names.Given as goal
 
 abbrev pub invariant-loop-pin : goal.invariant-loop-pin

@@ -1,6 +1,6 @@
 use Rattle.std.proofs.Common.{◌∙◌, [], length, map, sym, ap}
 use Rattle.std.specs.List.{filter_map, fold}
-use Rattle.sdc_model.specs.LibertyArcs as liberty
+use Rattle.library_model.specs.LibertyArcs as liberty
 use Rattle.lib_cells.specs.Members.{member_seen, members_seen}
 use Rattle.lib_cells.specs.RelatedPins.{related_all, related_seen}
 use Rattle.lib_cells.proofs.CellLemmas.{cell_launched, cell_whole, known_few, twice}

@@ -1,5 +1,5 @@
 use Rattle.std.proofs.Common.{◌≡◌, ◌++◌, drop, filter, map}
-use Rattle.sdc_model.specs.LibertyCells.{NamedPin, is_named_input}
+use Rattle.library_model.specs.LibertyCells.{NamedPin, is_named_input}
 use Rattle.lib_cells.proofs.functions.add_inputs.Given as goal
 
 abbrev pub invariant-loop-pin : goal.invariant-loop-pin

@@ -1,5 +1,5 @@
 use Rattle.std.proofs.Common.{◌≡◌, ◌++◌, drop, filter}
-use Rattle.sdc_model.specs.LibertyCells.{is_named, other_names}
+use Rattle.library_model.specs.LibertyCells.{is_named, other_names}
 use Rattle.lib_cells.proofs.functions.add_others.Given as goal
 
 abbrev pub invariant-loop-pin : goal.invariant-loop-pin

@@ -1,5 +1,5 @@
 use Rattle.std.proofs.Common.{◌≡◌, ◌++◌, drop, filter}
-use Rattle.sdc_model.specs.LibertyCells.{is_named}
+use Rattle.library_model.specs.LibertyCells.{is_named}
 use Rattle.lib_cells.proofs.functions.add_states.Given as goal
 
 abbrev pub invariant-loop-name : goal.invariant-loop-name

@@ -1,5 +1,5 @@
 use Rattle.std.proofs.Common.{◌≡◌, ◌++◌, drop}
-use Rattle.sdc_model.specs.LibertyCells.{input_places}
+use Rattle.library_model.specs.LibertyCells.{input_places}
 use Rattle.lib_cells.proofs.functions.input_places.Given as goal
 
 abbrev pub invariant-loop-place : goal.invariant-loop-place

@@ -1,5 +1,5 @@
 use Rattle.std.proofs.Common.{◌≡◌, ◌++◌, drop, map}
-use Rattle.sdc_model.specs.LibertyArcs.{lib_cell}
+use Rattle.library_model.specs.LibertyArcs.{lib_cell}
 use Rattle.lib_cells.specs.Members.{members_seen}
 use Rattle.lib_cells.proofs.libraries.lib_cells.Given as goal
 

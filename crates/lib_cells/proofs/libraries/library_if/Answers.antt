@@ -1,5 +1,5 @@
 use Rattle.std.proofs.Common.{◌∙◌, ap, subst}
-use Rattle.sdc_model.specs.LibertyFaults.{first_unit}
+use Rattle.library_model.specs.LibertyFaults.{first_unit}
 use Rattle.lib_cells.specs.FirstFaults.{cells_in, first_among, library_fault}
 use Rattle.lib_cells.specs.Members.{members_seen}
 use Rattle.lib_cells.specs.CellNumbers.{HasCells}

@@ -1,6 +1,6 @@
 use Rattle.std.proofs.Common.{◌≡◌, drop}
 use Rattle.std.specs.List.{last_or}
-use Rattle.sdc_model.specs.LibertyStatements as liberty
+use Rattle.library_model.specs.LibertyStatements as liberty
 use Rattle.lib_cells.specs.Members.{members_seen}
 use Rattle.lib_cells.proofs.members.last_value.Given as goal
 

@@ -1,5 +1,5 @@
 use Rattle.std.proofs.Common.{◌≡◌, ◌++◌, drop}
-use Rattle.sdc_model.specs.LibertyStatements as liberty
+use Rattle.library_model.specs.LibertyStatements as liberty
 use Rattle.lib_cells.specs.Members.{members_seen}
 use Rattle.lib_cells.specs.Seen.{statements_seen}
 use Rattle.lib_cells.proofs.members.members.Given as goal

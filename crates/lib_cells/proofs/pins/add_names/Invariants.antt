@@ -1,5 +1,5 @@
 use Rattle.std.proofs.Common.{◌≡◌, ◌++◌, drop, map}
-use Rattle.sdc_model.specs.LibertyCells as liberty
+use Rattle.library_model.specs.LibertyCells as liberty
 use Rattle.lib_cells.specs.Members.{member_seen}
 use Rattle.lib_cells.proofs.pins.add_names.Given as goal
 

@@ -1,7 +1,7 @@
 use Rattle.std.proofs.Common.{◌≡◌, ◌++◌, drop}
 use Rattle.std.specs.List.{flat_map}
-use Rattle.sdc_model.specs.LibertyStatements as liberty
-use Rattle.sdc_model.specs.LibertyTokens.{Token}
+use Rattle.library_model.specs.LibertyStatements as liberty
+use Rattle.library_model.specs.LibertyTokens.{Token}
 use Rattle.lib_cells.specs.Seen.{tokens_seen}
 use Rattle.lib_cells.proofs.said.value_text.Given as goal
 

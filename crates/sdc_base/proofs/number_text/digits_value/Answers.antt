@@ -10,17 +10,17 @@ append_digits-requires-clause-room c = ten_pos (30 - length c.args.before.now)
 pub append_digits-requires-2-clause-room : goal.append_digits-requires-2-clause-room
 append_digits-requires-2-clause-room c =
     let a = digits_below c.args.before.now c.requires.before in
-    let b = ten_mono (length c.args.before.now) (30 - length c.args.behind.now) (omega arith) in
+    let b = ten_mono (length c.args.before.now) (30 - length c.args.fraction.now) (omega arith) in
     omega (arith, a, b, c.append_digits.ensures)
 
 pub returns-clause-value : goal.returns-clause-value
 returns-clause-value c =
-    c.append_digits-2.ensures ∙ ap (λ n. digits_value_after 10 n c.args.behind.now) c.append_digits.ensures
-    ∙ sym (digits_value_after-append 0 c.args.before.now c.args.behind.now)
+    c.append_digits-2.ensures ∙ ap (λ n. digits_value_after 10 n c.args.fraction.now) c.append_digits.ensures
+    ∙ sym (digits_value_after-append 0 c.args.before.now c.args.fraction.now)
 
 pub returns-clause-below : goal.returns-clause-below
 returns-clause-below c =
-    let a = digits_below (c.args.before.now ++ c.args.behind.now) (all_digits-append c.args.before.now c.args.behind.now c.requires.before c.requires.behind) in
-    let e = length-append c.args.before.now c.args.behind.now in
-    let b = ten_mono (length (c.args.before.now ++ c.args.behind.now)) 30 (omega (arith, e, c.requires.few)) in
+    let a = digits_below (c.args.before.now ++ c.args.fraction.now) (all_digits-append c.args.before.now c.args.fraction.now c.requires.before c.requires.fraction) in
+    let e = length-append c.args.before.now c.args.fraction.now in
+    let b = ten_mono (length (c.args.before.now ++ c.args.fraction.now)) 30 (omega (arith, e, c.requires.few)) in
     omega (arith, a, b, returns-clause-value c)

@@ -15,5 +15,5 @@ loop-bytes-preserved g c =
       omega (arith, c.loop-bytes.invariant.0),
       rw added (length_more c.loop-bytes.bytes c.read.new.buffer c.in_ok-count.count MOST_BYTES c.loop-bytes.invariant.1 (omega (arith, c.len.ensures, c.if-count-len.false))),
       rw added more,
-      omega (arith, c.loop-bytes.invariant.3, c.in_ok-count.ensures.faults),
+      c.in_ok-count.ensures.quiet ∙ c.loop-bytes.invariant.3,
     )

@@ -1,6 +1,6 @@
 use Rattle.std.proofs.Common.{◌≡◌, ◌++◌, drop, Some}
 use Rattle.std.specs.Option.{option_and_then}
-use Rattle.sdc_model.specs.ClockGroups.{clock_places}
+use Rattle.mode_model.specs.ClockGroups.{clock_places}
 use Rattle.sdc_cli.proofs.clock_groups.clock_places.Given as goal
 
 -- the places so far and those of the objects that are left are those of all objects

@@ -1,5 +1,5 @@
 use Rattle.std.proofs.Common.{◌≡◌, drop}
-use Rattle.sdc_model.specs.ClockCommands.{group_options, no_groups}
+use Rattle.mode_model.specs.ClockCommands.{group_options, no_groups}
 use Rattle.sdc_cli.proofs.clock_groups.group_options.Given as goal
 
 -- the options so far with those of the words that are left are those of all words

@@ -1,6 +1,6 @@
 use Rattle.std.proofs.Common.{◌≡◌, ◌++◌, drop, Some}
 use Rattle.std.specs.Option.{option_and_then}
-use Rattle.sdc_model.specs.ClockCommands.{groups_placed}
+use Rattle.mode_model.specs.ClockCommands.{groups_placed}
 use Rattle.sdc_cli.proofs.clock_groups.groups_placed.Given as goal
 
 -- the groups so far and those that are left are all groups

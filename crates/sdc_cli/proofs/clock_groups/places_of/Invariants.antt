@@ -1,6 +1,6 @@
 use Rattle.std.proofs.Common.{◌≡◌, ◌++◌, drop, Some}
 use Rattle.std.specs.Option.{option_and_then}
-use Rattle.sdc_model.specs.ClockGroups.{places_of}
+use Rattle.mode_model.specs.ClockGroups.{places_of}
 use Rattle.sdc_cli.proofs.clock_groups.places_of.Given as goal
 
 -- the places so far and those of the names that are left are those of all names

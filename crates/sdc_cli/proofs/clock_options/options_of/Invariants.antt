@@ -1,5 +1,5 @@
 use Rattle.std.proofs.Common.{◌≡◌, drop}
-use Rattle.sdc_model.specs.ClockCommands.{clock_options, no_options, value_texts}
+use Rattle.mode_model.specs.ClockCommands.{clock_options, no_options, value_texts}
 use Rattle.sdc_cli.proofs.clock_options.options_of.Given as goal
 
 -- the options so far with those of the words that are left are those of all words

@@ -1,5 +1,5 @@
 use Rattle.std.proofs.Common.{◌≡◌, drop}
-use Rattle.sdc_model.specs.ClockCommands.{in_order, put_in_order}
+use Rattle.mode_model.specs.ClockCommands.{in_order, put_in_order}
 use Rattle.sdc_cli.proofs.clock_queries.in_order.Given as goal
 
 -- the places so far, with those that are left put among them, are all places in order

@@ -1,7 +1,7 @@
 use Rattle.std.proofs.Common.{◌≡◌, ℕ, List, [], ◌∷◌, ◌++◌, false, ◌+◌, drop, String, Global, string_bytes, sym, ◌∙◌, ap}
 use Rattle.sdc_model.specs.CommandLine.{merge_arguments, words_of, is_option}
 use Rattle.sdc_cli.proofs.Arguments.{in_front_of, merge_arguments-more}
-use Rattle.tcl_eval.proofs.TurnFacts.{drop_item}
+use Rattle.tcl_eval.proofs.RunStepFacts.{drop_item}
 use Rattle.sdc_cli.proofs.command_line.merge_arguments.Goals as goal
 
 pub loop-at-preserved : goal.loop-at-preserved

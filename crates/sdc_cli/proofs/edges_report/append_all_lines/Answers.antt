@@ -2,7 +2,7 @@ use Rattle.std.proofs.Common.{[], List, refl, sym, subst}
 use Rattle.std.proofs.lemmas.List.{drop_all}
 use Rattle.timing_types.specs.declared.edge_times.TimedEdge.{TimedEdge}
 use Rattle.sdc_model.specs.EdgesText.{AreTimed, AreLines}
-use Rattle.tcl_eval.proofs.TurnFacts.{drop_item}
+use Rattle.tcl_eval.proofs.RunStepFacts.{drop_item}
 use Rattle.sdc_cli.proofs.EdgeLines.{Lines-more, all_appended}
 use Rattle.sdc_cli.proofs.edges_report.append_all_lines.Goals as goal
 

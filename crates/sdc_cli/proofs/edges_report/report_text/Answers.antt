@@ -3,7 +3,7 @@ use Rattle.std.proofs.lemmas.List.{drop_all}
 use Rattle.timing_types.specs.declared.clocks.Clock.{Clock}
 use Rattle.timing_types.specs.declared.modes.Mode.{Mode}
 use Rattle.sdc_model.specs.EdgesText.{Appends, AreReports, IsReport, ModesHaveTimes}
-use Rattle.tcl_eval.proofs.TurnFacts.{drop_item}
+use Rattle.tcl_eval.proofs.RunStepFacts.{drop_item}
 use Rattle.sdc_cli.proofs.EdgeLines.{Reports-more}
 use Rattle.sdc_cli.proofs.edges_report.report_text.Goals as goal
 

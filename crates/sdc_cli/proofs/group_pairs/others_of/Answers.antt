@@ -1,5 +1,5 @@
 use Rattle.std.proofs.Common.{◌≡◌, ◌∙◌, ◌+◌, ◌-◌, ◌++◌, suc, sym, ap, arith}
-use Rattle.sdc_model.specs.ClockGroups.{others_from}
+use Rattle.mode_model.specs.ClockGroups.{others_from}
 use Rattle.sdc_cli.proofs.GroupSteps.{others_more}
 use Rattle.sdc_cli.proofs.group_pairs.others_of.Goals as goal
 

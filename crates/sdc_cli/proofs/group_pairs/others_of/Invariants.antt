@@ -1,5 +1,5 @@
 use Rattle.std.proofs.Common.{◌≡◌, ◌++◌, ◌-◌}
-use Rattle.sdc_model.specs.ClockGroups.{others_from}
+use Rattle.mode_model.specs.ClockGroups.{others_from}
 use Rattle.sdc_cli.proofs.group_pairs.others_of.Given as goal
 
 -- the places so far and those that are left are all of them

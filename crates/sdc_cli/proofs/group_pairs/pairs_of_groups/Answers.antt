@@ -1,5 +1,5 @@
 use Rattle.std.proofs.lemmas.List.{drop_all}
-use Rattle.tcl_eval.proofs.TurnFacts.{drop_item}
+use Rattle.tcl_eval.proofs.RunStepFacts.{drop_item}
 use Rattle.sdc_cli.proofs.ExclusiveSteps.{exclusive_answer}
 use Rattle.sdc_cli.proofs.GroupSteps.{leads_end, leads_step}
 use Rattle.sdc_cli.proofs.group_pairs.pairs_of_groups.Goals as goal

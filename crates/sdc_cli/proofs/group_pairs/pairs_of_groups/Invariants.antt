@@ -1,6 +1,6 @@
 use Rattle.std.proofs.Common.{◌≡◌, ◌||◌, drop}
 use Rattle.timing_types.specs.declared.clocks.Pair.{Pair}
-use Rattle.sdc_model.specs.ClockGroups.{all_set_apart}
+use Rattle.mode_model.specs.ClockGroups.{all_set_apart}
 use Rattle.sdc_cli.specs.Exclusive.{has_pair, parts_in}
 use Rattle.sdc_cli.proofs.group_pairs.pairs_of_groups.Given as goal
 

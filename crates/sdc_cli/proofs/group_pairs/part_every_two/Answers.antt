@@ -1,6 +1,6 @@
 use Rattle.std.proofs.lemmas.List.{drop_all}
-use Rattle.sdc_model.specs.ClockGroups.{every_two}
-use Rattle.tcl_eval.proofs.TurnFacts.{drop_item}
+use Rattle.mode_model.specs.ClockGroups.{every_two}
+use Rattle.tcl_eval.proofs.RunStepFacts.{drop_item}
 use Rattle.sdc_cli.proofs.GroupSteps.{leads_group, leads_through}
 use Rattle.sdc_cli.proofs.group_pairs.part_every_two.Goals as goal
 
@@ -8,7 +8,7 @@ pub loop-at-preserved : goal.loop-at-preserved
 loop-at-preserved c =
     let here = drop_item c.args.groups.now c.loop-at.at _ c.loop-at-test.true c.index-groups-at.is in
     leads_group c.loop-at.pairs c.part_each.new.pairs c.args.pairs.now _ _ _ (every_two c.args.groups.now) here
-    (rw (c.as_slice.ensures, c.behind.ensures) at c.in_ok-part_each.ensures) c.loop-at.invariant
+    (rw (c.as_slice.ensures, c.after.ensures) at c.in_ok-part_each.ensures) c.loop-at.invariant
 
 pub returns : goal.returns
 returns c =

@@ -1,5 +1,5 @@
 use Rattle.std.proofs.Common.{drop}
-use Rattle.sdc_model.specs.ClockGroups.{every_two}
+use Rattle.mode_model.specs.ClockGroups.{every_two}
 use Rattle.sdc_cli.proofs.GroupSteps.{Leads}
 use Rattle.sdc_cli.proofs.group_pairs.part_every_two.Given as goal
 

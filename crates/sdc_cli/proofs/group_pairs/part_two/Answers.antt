@@ -1,5 +1,5 @@
 use Rattle.std.proofs.Common.{◌∙◌, ap}
-use Rattle.sdc_model.specs.ClockGroups.{is_among}
+use Rattle.constraint_model.specs.ListOrder.{is_among}
 use Rattle.sdc_cli.specs.Exclusive.{HasSame}
 use Rattle.sdc_cli.proofs.ExclusiveSteps.{HasMore-distinct}
 use Rattle.sdc_cli.proofs.group_pairs.part_two.Goals as goal

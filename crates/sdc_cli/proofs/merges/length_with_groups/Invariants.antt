@@ -1,7 +1,7 @@
 -- The bytes so far, and those of the lines of the clocks that are left, are those of the front and of all lines.
 use Rattle.std.proofs.Common.{◌≡◌, ◌+◌, length, drop}
-use Rattle.sdc_model.specs.PrintedLine.{lines_text}
-use Rattle.sdc_model.specs.PrintedFile.{group_lines}
+use Rattle.mode_model.specs.PrintedLine.{lines_text}
+use Rattle.mode_model.specs.PrintedFile.{group_lines}
 use Rattle.sdc_print.specs.Runs.{groups_text}
 use Rattle.sdc_cli.proofs.merges.length_with_groups.Given as goal
 

@@ -1,6 +1,6 @@
 -- Views of printable modes have what their clock map needs.
 use Rattle.std.proofs.Common.{◌≤◌, length, arith, ◌∙◌}
-use Rattle.sdc_model.specs.PlainViews.{ArePlain, views_of, clocks_in}
+use Rattle.merge_model.specs.PlainViews.{ArePlain, views_of, clocks_in}
 use Rattle.sdc_cli.proofs.MergedClocks.{views_are_primary, views_have_waves, views_count}
 use Rattle.sdc_cli.proofs.merges.merge.Goals as goal
 

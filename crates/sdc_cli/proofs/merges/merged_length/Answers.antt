@@ -1,9 +1,9 @@
 -- The merged clocks alone can be printed, and their file with the lines of groups is the merged text.
 use Rattle.std.proofs.Common.{◌≡◌, ◌≤◌, ◌∙◌, [], length, ap, arith}
-use Rattle.sdc_model.specs.ClockIdentity.{IsClockMap}
-use Rattle.sdc_model.specs.Exclusive.{AreExclusivePairs}
-use Rattle.sdc_model.specs.PlainViews.{ArePlain, views_of, clocks_in}
-use Rattle.sdc_model.specs.PrintedFile.{IsPrintable, printed_file}
+use Rattle.merge_model.specs.ClockIdentity.{IsClockMap}
+use Rattle.merge_model.specs.Exclusive.{AreExclusivePairs}
+use Rattle.merge_model.specs.PlainViews.{ArePlain, views_of, clocks_in}
+use Rattle.mode_model.specs.PrintedFile.{IsPrintable, printed_file}
 use Rattle.flat_design.specs.EmptyDesign.{empty_design}
 use Rattle.sdc_cli.proofs.MergedClocks.{views_are_primary, views_have_waves, views_count}
 use Rattle.sdc_cli.proofs.MergedLengths.{alone_is_printable, counted}

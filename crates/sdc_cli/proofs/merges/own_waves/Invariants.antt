@@ -1,5 +1,5 @@
 use Rattle.std.proofs.Common.{◌≡◌, ◌++◌, drop}
-use Rattle.sdc_model.specs.PlainViews.{own_waves}
+use Rattle.merge_model.specs.PlainViews.{own_waves}
 use Rattle.sdc_cli.proofs.merges.own_waves.Given as goal
 
 -- the waves so far and those of the clocks that are left are those of all clocks

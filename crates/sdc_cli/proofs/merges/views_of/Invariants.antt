@@ -1,5 +1,5 @@
 use Rattle.std.proofs.Common.{◌≡◌, ◌++◌, drop}
-use Rattle.sdc_model.specs.PlainViews.{views_of}
+use Rattle.merge_model.specs.PlainViews.{views_of}
 use Rattle.sdc_cli.proofs.merges.views_of.Given as goal
 
 -- the views so far and those of the modes that are left are those of all modes

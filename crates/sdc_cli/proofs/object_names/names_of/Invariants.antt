@@ -1,5 +1,5 @@
 use Rattle.std.proofs.Common.{◌≡◌, ◌++◌, drop, map}
-use Rattle.sdc_model.specs.ClockCommands.{object_name}
+use Rattle.mode_model.specs.ClockCommands.{object_name}
 use Rattle.sdc_cli.proofs.object_names.names_of.Given as goal
 
 -- the names so far and those of the objects that are left are those of all objects

@@ -1,8 +1,8 @@
 -- The bytes that were counted are those of the merge that is printed, since modes have one merge.
 use Rattle.std.proofs.Common.{◌≡◌, ◌≤◌, ◌∙◌, length, refl, sym, ap, arith, rules}
 use Rattle.timing_types.specs.declared.merges.Merged.{Merged}
-use Rattle.sdc_model.specs.ClockCommands.{most_file_clocks}
-use Rattle.sdc_model.specs.PrintedFile.{IsPrintable}
+use Rattle.mode_model.specs.ClockCommands.{most_file_clocks}
+use Rattle.mode_model.specs.PrintedFile.{IsPrintable}
 use Rattle.sdc_print.proofs.FileReads.{reads_back}
 use Rattle.flat_design.specs.EmptyDesign.{empty_design}
 use Rattle.sdc_cli.specs.MergeOutput.{SaysAgain, merged_text}

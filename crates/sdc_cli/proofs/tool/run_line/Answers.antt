@@ -1,7 +1,7 @@
 use Rattle.std.proofs.Common.{Some}
-use Rattle.source_types.specs.declared.answers.Status.{Status}
+use Rattle.sdc_model.specs.declared.answers.Status.{Status}
 use Rattle.sdc_cli.specs.Announced.{HasCauses}
-use Rattle.sdc_cli.proofs.AnswerEnds.{read_fault_ends, reads_ends, rose_second, too_large_ends, usage_ends, write_fault_later}
+use Rattle.sdc_cli.proofs.AnswerEnds.{quiet_ends, read_fault_ends, reads_ends, rose_second, too_large_ends, usage_ends, write_fault_later}
 use Rattle.sdc_cli.proofs.RunLeaves.{leaves_faults, leaves_written}
 use Rattle.sdc_cli.proofs.WriteFaultLines.{named_by_run}
 use Rattle.sdc_cli.proofs.tool.run_line.Goals as goal
@@ -18,6 +18,10 @@ returns-clause-read_fault g c =
     read_fault_ends (Some c.args.line.now) (faults c.args.inputs.now) (faults c.write_line_output-status.new.inputs) _ _ c.announce.ensures.ends
     c.write_line_output-status.ensures.read_fault
 
+pub returns-clause-quiet : goal.returns-clause-quiet
+returns-clause-quiet g c =
+    quiet_ends _ _ _ _ _ _ _ c.announce.ensures.ends c.announce.ensures.quiet c.write_line_output-status.ensures.quiet
+
 pub returns-clause-reads : goal.returns-clause-reads
 returns-clause-reads g c = reads_ends (Some c.args.line.now) _ _ _ _ c.announce.ensures.ends c.write_line_output-status.ensures.reads
 
@@ -27,12 +31,12 @@ returns-clause-writes g c =
 
 pub returns-clause-names : goal.returns-clause-names
 returns-clause-names g c =
-    let told = g.I.Inputs.told in
+    let contents = g.I.Inputs.contents in
     let reads = g.I.Inputs.faults in
     let writes = g.O.Outputs.faults in
     let ran = c.write_line_output-status.ensures in
     let answer = c.write_line_output-status.result in
-    let Causes : Status → Type 0 = HasCauses (told c.args.inputs.now) (reads c.args.inputs.now) (reads c.write_line_output-status.new.inputs)
+    let Causes : Status → Type 0 = HasCauses (contents c.args.inputs.now) (reads c.args.inputs.now) (reads c.write_line_output-status.new.inputs)
     (writes c.args.outputs.now) (writes c.announce.new.outputs) (Some c.args.line.now) in
     let stood : Causes answer = (
       ran.usage,

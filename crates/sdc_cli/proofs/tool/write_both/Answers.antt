@@ -6,8 +6,8 @@ use Rattle.sdc_cli.proofs.tool.write_both.Goals as goal
 
 pub returns-clause-writes : goal.returns-clause-writes
 returns-clause-writes g c =
-    let told = g.O.Outputs.told in
-    let creates : Creates c.args.out.now (Ok tt) (told c.args.outputs.now) (told c.create.new.self) = rw c.as_str.ensures at c.in_ok-create.ensures.creates in
-    let merged : WritesAll Merged c.args.output.now.merged (Ok tt) (told c.create.new.self) (told c.write_all.new.outputs) = rw c.as_slice.ensures at c.in_ok-write_all.ensures.writes in
-    let report : WritesAll Report c.args.output.now.report c.write_all-2.result (told c.write_all.new.outputs) (told c.write_all-2.new.outputs) = rw c.as_slice-2.ensures at c.write_all-2.ensures.writes in
+    let contents = g.O.Outputs.contents in
+    let creates : Creates c.args.out.now (Ok tt) (contents c.args.outputs.now) (contents c.create.new.self) = rw c.as_str.ensures at c.in_ok-create.ensures.creates in
+    let merged : WritesAll Merged c.args.output.now.merged (Ok tt) (contents c.create.new.self) (contents c.write_all.new.outputs) = rw c.as_slice.ensures at c.in_ok-write_all.ensures.writes in
+    let report : WritesAll Report c.args.output.now.report c.write_all-2.result (contents c.write_all.new.outputs) (contents c.write_all-2.new.outputs) = rw c.as_slice-2.ensures at c.write_all-2.ensures.writes in
     both_written _ _ _ _ _ _ _ creates merged report

@@ -47,7 +47,7 @@ fn waveforms_of_clocks(rt: HostRuntime) -> Result<(), Fail> {
 
 /// Waveforms that a clock of 10 ns has not.
 static NO_WAVEFORMS: [&str; 14] = [
-    // the fall not behind the rise, or not before the next one
+    // the fall not after the rise, or not before the next one
     "0 0",
     "5 5",
     "5 4",

@@ -17,7 +17,7 @@ create_clock -name d -period 2";
 const SAID_CLOCKS: &str =
     "a 2000000 0 1000000;b 2000000 0 1000000;c 2000000 0 1000000;d 2000000 0 1000000;";
 
-/// The arguments of groups behind these clocks, and the exclusive pairs that they make.
+/// The arguments of groups after these clocks, and the exclusive pairs that they make.
 static GROUPS: [(&str, &str); 24] = [
     // a name, a list and a query, the lesser place first
     (" -group a -group b", " 0-1"),
@@ -67,7 +67,7 @@ static GROUPS: [(&str, &str); 24] = [
     ),
 ];
 
-/// Sees that these groups behind the four clocks make these pairs exclusive.
+/// Sees that these groups after the four clocks make these pairs exclusive.
 fn groups_make(rt: &impl Abort, alloc: Global, groups: &str, pairs: &str) -> Result<(), Fail> {
     let text = format!(in alloc; "{CLOCKS}\nset_clock_groups -asynchronous{groups}")?;
     let wanted = format!(in alloc; "{SAID_CLOCKS}{pairs}")?;
@@ -82,7 +82,7 @@ fn exclusive_pairs_of_groups(rt: HostRuntime) -> Result<(), Fail> {
     Ok(())
 }
 
-/// Arguments of groups that are not read behind these clocks.
+/// Arguments of groups that are not read after these clocks.
 static OTHER_GROUPS: [&str; 14] = [
     // names that are no clocks
     "-asynchronous -group a -group e",
@@ -104,7 +104,7 @@ static OTHER_GROUPS: [&str; 14] = [
     "-asynchronous -group a -groups b",
 ];
 
-/// Sees that these groups behind the four clocks are not read.
+/// Sees that these groups after the four clocks are not read.
 fn groups_fail(rt: &impl Abort, alloc: Global, groups: &str) -> Result<(), Fail> {
     let text = format!(in alloc; "{CLOCKS}\nset_clock_groups {groups}")?;
     says(rt, alloc, text.as_str(), "Sdc(OutOfProfile) 5")

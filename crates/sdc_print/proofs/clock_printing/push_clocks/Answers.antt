@@ -3,8 +3,8 @@ use Rattle.std.proofs.lemmas.Int.{to_z-of_z}
 use Rattle.std.proofs.lemmas.List.{drop_all}
 use Rattle.std.specs.Int.{w64}
 use mir.Val.{SFits}
-use Rattle.sdc_model.specs.PrintedLine.{lines_text}
-use Rattle.sdc_model.specs.PrintedFile.{clock_lines, lines_of_form}
+use Rattle.mode_model.specs.PrintedLine.{lines_text}
+use Rattle.mode_model.specs.PrintedFile.{clock_lines, lines_of_form}
 use Rattle.sdc_print.proofs.AddedFacts.{goes_on, ends, refused, within}
 use Rattle.sdc_print.proofs.LineFacts.{clock_lines_step}
 use Rattle.sdc_print.proofs.clock_printing.push_clocks.Goals as goal

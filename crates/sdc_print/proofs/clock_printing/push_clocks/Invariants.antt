@@ -1,6 +1,6 @@
 use Rattle.std.proofs.Common.{◌≡◌, drop}
-use Rattle.sdc_model.specs.PrintedLine.{lines_text}
-use Rattle.sdc_model.specs.PrintedFile.{clock_lines}
+use Rattle.mode_model.specs.PrintedLine.{lines_text}
+use Rattle.mode_model.specs.PrintedFile.{clock_lines}
 use Rattle.sdc_print.specs.Added.{added}
 use Rattle.sdc_print.proofs.clock_printing.push_clocks.Given as goal
 

@@ -3,8 +3,8 @@ use Rattle.std.proofs.lemmas.Int.{to_z-of_z}
 use Rattle.std.proofs.lemmas.List.{append-nil}
 use Rattle.std.specs.Int.{w64}
 use mir.Val.{SFits}
-use Rattle.sdc_model.specs.PrintedLine.{line_text}
-use Rattle.sdc_model.specs.PrintedFile.{clock_line}
+use Rattle.mode_model.specs.PrintedLine.{line_text}
+use Rattle.mode_model.specs.PrintedFile.{clock_line}
 use Rattle.sdc_print.specs.Added.{added}
 use Rattle.sdc_print.proofs.AddedFacts.{added_none}
 use Rattle.sdc_print.proofs.clock_printing.push_form.Goals as goal

@@ -1,5 +1,5 @@
 use Rattle.std.proofs.Common.{sym, ap, ◌∙◌}
-use Rattle.sdc_model.specs.PrintedFile.{name_of}
+use Rattle.mode_model.specs.PrintedFile.{name_of}
 use Rattle.sdc_print.specs.Added.{added}
 use Rattle.sdc_print.proofs.AddedFacts.{added_none}
 use Rattle.sdc_print.proofs.group_printing.push_clock_name.Goals as goal

@@ -1,7 +1,7 @@
 use Rattle.std.proofs.Common.{◌≡◌, ◌<◌, ◌≤◌, length, drop, take, get_or, suc, add-one, ap, ◌∙◌, refl}
 use Rattle.std.proofs.lemmas.List.{drop_all}
-use Rattle.sdc_model.specs.PrintedLine.{lines_text}
-use Rattle.sdc_model.specs.PrintedFile.{group_lines}
+use Rattle.mode_model.specs.PrintedLine.{lines_text}
+use Rattle.mode_model.specs.PrintedFile.{group_lines}
 use Rattle.sdc_print.specs.Added.{added, Overflows}
 use Rattle.sdc_print.specs.Runs.{run_length, group_text}
 use Rattle.sdc_print.proofs.AddedFacts.{goes_on, ends, refused, within}

@@ -1,6 +1,7 @@
 use Rattle.std.proofs.Common.{◌≡◌, length, drop}
-use Rattle.sdc_model.specs.PrintedLine.{lines_text}
-use Rattle.sdc_model.specs.PrintedFile.{group_lines, ArePairs}
+use Rattle.mode_model.specs.PrintedLine.{lines_text}
+use Rattle.mode_model.specs.PrintedFile.{group_lines}
+use Rattle.constraint_model.specs.ExclusivePairs.{ArePairs}
 use Rattle.sdc_print.specs.Added.{added}
 use Rattle.sdc_print.proofs.RunFacts.{AreFrom}
 use Rattle.sdc_print.proofs.group_printing.push_groups.Given as goal

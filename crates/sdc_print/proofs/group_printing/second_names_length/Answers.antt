@@ -1,6 +1,6 @@
 use Rattle.std.proofs.Common.{◌≡◌, ◌≤◌, ◌^◌, length, drop, add-one, ap, arith}
 use Rattle.std.proofs.lemmas.List.{drop_all}
-use Rattle.sdc_model.specs.PrintedFile.{names_at}
+use Rattle.mode_model.specs.PrintedFile.{names_at}
 use Rattle.sdc_print.specs.Runs.{second_names, seconds}
 use Rattle.sdc_print.proofs.AddedFacts.{refused}
 use Rattle.sdc_print.proofs.GroupFacts.{tail_length, tail_text, tail_text_all}

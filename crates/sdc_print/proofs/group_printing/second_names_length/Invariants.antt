@@ -1,6 +1,6 @@
 -- The bytes so far, and those of the names that are left, are those of all names.
 use Rattle.std.proofs.Common.{◌≡◌, ◌+◌, length, drop}
-use Rattle.sdc_model.specs.PrintedFile.{names_at}
+use Rattle.mode_model.specs.PrintedFile.{names_at}
 use Rattle.sdc_print.specs.Runs.{seconds}
 use Rattle.sdc_print.proofs.GroupFacts.{tail_text}
 use Rattle.sdc_print.proofs.group_printing.second_names_length.Given as goal

@@ -1,6 +1,6 @@
 use Rattle.std.proofs.Common.{◌≡◌, ◌++◌, drop, get_or, slice_get, suc, add-one, sym, ap, subst, ◌∙◌, append_assoc}
 use Rattle.std.proofs.lemmas.List.{drop_all}
-use Rattle.sdc_model.specs.PrintedFile.{names_at, name_of}
+use Rattle.mode_model.specs.PrintedFile.{names_at, name_of}
 use Rattle.sdc_print.specs.Added.{added, Overflows}
 use Rattle.sdc_print.specs.Runs.{seconds}
 use Rattle.sdc_print.proofs.AddedFacts.{added_added, added_none, goes_on, ends, refused, within}

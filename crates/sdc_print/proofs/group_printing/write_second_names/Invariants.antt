@@ -1,5 +1,5 @@
 use Rattle.std.proofs.Common.{◌≡◌, drop}
-use Rattle.sdc_model.specs.PrintedFile.{names_at}
+use Rattle.mode_model.specs.PrintedFile.{names_at}
 use Rattle.sdc_print.specs.Added.{added}
 use Rattle.sdc_print.specs.Runs.{seconds}
 use Rattle.sdc_print.proofs.GroupFacts.{tail_text}

@@ -1,4 +1,4 @@
-use Rattle.sdc_model.specs.PrintedFile.{printed_file}
+use Rattle.mode_model.specs.PrintedFile.{printed_file}
 use Rattle.sdc_print.specs.Added.{added}
 use Rattle.sdc_print.proofs.AddedFacts.{kept_bytes}
 use Rattle.sdc_print.proofs.printing.print.Goals as goal

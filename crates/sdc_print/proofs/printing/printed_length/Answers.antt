@@ -1,5 +1,5 @@
 use Rattle.std.proofs.Common.{◌≤◌, ◌^◌, arith, zero-add, length}
-use Rattle.sdc_model.specs.PrintedFile.{printed_file}
+use Rattle.mode_model.specs.PrintedFile.{printed_file}
 use Rattle.sdc_print.specs.Added.{added, Overflows}
 use Rattle.sdc_print.proofs.AddedFacts.{refused}
 use Rattle.sdc_print.proofs.printing.printed_length.Goals as goal

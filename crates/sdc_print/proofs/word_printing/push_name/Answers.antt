@@ -1,5 +1,5 @@
 use Rattle.std.proofs.Common.{◌≡◌, ◌∙◌, [], ◌∷◌, sym, false, true, arith}
-use Rattle.sdc_model.specs.PrintedLine.{name_word, is_bare_text}
+use Rattle.mode_model.specs.PrintedLine.{name_word, is_bare_text}
 use Rattle.sdc_print.proofs.AddedFacts.{added_added, added_three, longer, stops}
 use Rattle.sdc_print.proofs.word_printing.push_name.Goals as goal
 

@@ -3,7 +3,7 @@ use Rattle.tcl_eval.specs.Worlds.{world}
 use Rattle.tcl_eval.proofs.CommandRuns.{ScriptOn}
 use Rattle.tcl_eval.proofs.evaluation.eval.Given as goal
 
--- whatever is told behind the place, is told from the beginning on
+-- whatever is told after the place, is told from the beginning on
 abbrev pub invariant-loop-run : goal.invariant-loop-run
 invariant-loop-run g l =
     ScriptOn g.H.Commands.host l.script (g.H.Commands.state l.initial.host) l.reader (world l.run (g.H.Commands.state l.host))

@@ -2,7 +2,7 @@ use Rattle.std.proofs.Common.{◌+◌, drop}
 use Rattle.std.proofs.lemmas.List.{drop_all}
 use Rattle.std.proofs.lemmas.Result.{err_from_is_err_and}
 use Rattle.tcl_eval.proofs.ListRuns.{text_read, text_refused, texts_read}
-use Rattle.tcl_eval.proofs.TurnFacts.{drop_item}
+use Rattle.tcl_eval.proofs.RunStepFacts.{drop_item}
 use Rattle.tcl_eval.proofs.list_values.all_items.Goals as goal
 
 pub loop-text-preserved : goal.loop-text-preserved

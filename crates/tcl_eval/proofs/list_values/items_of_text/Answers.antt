@@ -1,5 +1,5 @@
 use Rattle.std.proofs.Common.{ap, ◌∙◌}
-use Rattle.sdc_model.specs.BuiltIns.{text_values}
+use Rattle.tcl_model.specs.BuiltIns.{text_values}
 use Rattle.tcl_eval.proofs.ListRuns.{text_has_items}
 use Rattle.tcl_eval.proofs.list_values.items_of_text.Goals as goal
 

@@ -1,5 +1,5 @@
 use Rattle.std.proofs.Common.{◌≡◌, ◌++◌, drop, map}
-use Rattle.sdc_model.specs.BuiltIns.{one_object}
+use Rattle.tcl_model.specs.BuiltIns.{one_object}
 use Rattle.tcl_eval.proofs.list_values.object_items.Given as goal
 
 -- the values so far, and the objects that are left, are all

@@ -1,5 +1,5 @@
 use Rattle.std.proofs.Common.{◌≡◌, ◌++◌, drop}
-use Rattle.sdc_model.specs.BuiltIns.{text_values}
+use Rattle.tcl_model.specs.BuiltIns.{text_values}
 use Rattle.tcl_eval.proofs.list_values.text_items.Given as goal
 
 -- the values so far, and the texts that are left, are all

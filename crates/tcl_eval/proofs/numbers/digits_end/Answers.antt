@@ -1,5 +1,5 @@
 use Rattle.std.proofs.Common.{sym, ◌∙◌}
-use Rattle.sdc_model.specs.Bytes.{is_digit}
+use Rattle.text_model.specs.Bytes.{is_digit}
 use Rattle.tcl_words.proofs.RunFacts.{run_more}
 use Rattle.tcl_eval.proofs.numbers.digits_end.Goals as goal
 

@@ -4,22 +4,22 @@ use Rattle.std.proofs.lemmas.Result.{err_from_is_err_and}
 use Rattle.source_types.specs.declared.built_ins.CommandName.TheVariants as command
 use Rattle.source_types.specs.declared.commands.Command.{Command}
 use Rattle.source_types.specs.declared.expressions.ExpressionStep.TheVariants as step
-use Rattle.sdc_model.specs.ExpressionSteps.{ParsesTo}
+use Rattle.tcl_model.specs.ExpressionSteps.{ParsesTo}
 use Rattle.timing_types.specs.declared.objects.Value.{Value}
-use Rattle.sdc_model.specs.BuiltIns.{Concats, Indexes, no_text}
+use Rattle.tcl_model.specs.BuiltIns.{Concats, Indexes, no_text}
 use Rattle.timing_types.specs.declared.objects.Value.TheVariants as value
-use Rattle.sdc_model.specs.ExpressionValue.{text_of, truth_of}
-use Rattle.sdc_model.specs.HostCalls.{World, text_in}
-use Rattle.sdc_model.specs.Turns.{Answers}
-use Rattle.sdc_model.specs.NamedCommands.{EvaluatesText, ReadsWord, named, spaced}
-use Rattle.sdc_model.specs.ScriptRun.{RunsCommand}
+use Rattle.tcl_model.specs.ExpressionValue.{text_of, truth_of}
+use Rattle.tcl_model.specs.HostCalls.{World, text_in}
+use Rattle.tcl_model.specs.RunSteps.{Answers}
+use Rattle.tcl_model.specs.NamedCommands.{EvaluatesText, ReadsWord, named, spaced}
+use Rattle.tcl_model.specs.ScriptRun.{RunsCommand}
 use Rattle.tcl_eval.specs.ScriptReads.{CommandWithin, beginning}
 use Rattle.tcl_words.proofs.Refusals.{meets_refusal}
 use Rattle.tcl_eval.specs.Worlds.{Begins, level_of, world}
 use Rattle.tcl_eval.proofs.CommandRuns.{begun, body_refused, body_run, body_unread, one_run}
 use Rattle.tcl_eval.proofs.NamedRuns.{by_name, condition_refused, does_hold, does_not_hold, item_refused, item_run, items_run, no_condition_run, no_item_run, no_truth, none_holds, repeats_run, repeats_unread, name_run, words_refused, no_words}
 use Rattle.tcl_eval.proofs.StepRuns.{no_step_run, step_refused, step_run, step_taken, steps_run, word_step, word_step_refused}
-use Rattle.tcl_eval.proofs.TurnFacts.{answer_ok, drop_item, gave, gives_raised, looked, then_ok, then_stop}
+use Rattle.tcl_eval.proofs.RunStepFacts.{answer_ok, drop_item, gave, gives_raised, looked, then_ok, then_stop}
 use Rattle.tcl_eval.proofs.WordRuns.{bracket_run, index_run, part_refused, part_run, parts_run, word_refused, word_run, words_run}
 use Rattle.tcl_eval.proofs.scripts.+run.Goals as goal
 
@@ -108,8 +108,8 @@ run_part-returns-then-is_index g below c =
 pub run_part-returns-else-is_index : goal.run_part-returns-else-is_index
 run_part-returns-else-is_index g below c =
     rw c.in-Script.is
-    (bracket_run g.H.Commands.host c.args.level.line c.args.level.left c.args.inside c.behind.result.left c.in-Script.script _ _ c.run_body.result
-    (sym (rw c.as_bytes.ensures at c.if-is_index.ensures)) c.behind.ensures.left (rw (c.as_str-in-Script.ensures, c.behind.ensures.line) at c.run_body.ensures))
+    (bracket_run g.H.Commands.host c.args.level.line c.args.level.left c.args.inside c.after.result.left c.in-Script.script _ _ c.run_body.result
+    (sym (rw c.as_bytes.ensures at c.if-is_index.ensures)) c.after.ensures.left (rw (c.as_str-in-Script.ensures, c.after.ensures.line) at c.run_body.ensures))
 
 -- ---- a command by its name
 
@@ -118,12 +118,12 @@ run_named-returns-in_err-result-in-Expr g below c =
     let level = level_of g.H.Commands.host c.args.level in
     let state = g.H.Commands.state c.args.host.now in
     let w = world c.args.run.now state in
-    let after = world c.evaluate.new.run (g.H.Commands.state c.evaluate.new.host) in
+    let later = world c.evaluate.new.run (g.H.Commands.state c.evaluate.new.host) in
     let is = rw c.as_slice-words.ensures at c.in_ok-text-in-Expr.ensures in
     let same = err_from_is_err_and c.from_residual-in_err-result-in-Expr.result c.from_residual-in_err-result-in-Expr.ensures.1 in
     rw (same.1, same.2)
-    (by_name level (named c.args.name.now) command.Expr c.args.name.now c.args.arguments.now w after (Err c.in_err-result-in-Expr.field-0.0) (sym (rw c.as_str.ensures at c.command_name.ensures) ∙ c.in-Expr.is)
-    (then_stop (EvaluatesText level (spaced (map (text_in g.H.Commands.host state) c.args.arguments.now))) (λ result. Answers (Ok (value.Text (text_of result)))) w after c.in_err-result-in-Expr.field-0.0
+    (by_name level (named c.args.name.now) command.Expr c.args.name.now c.args.arguments.now w later (Err c.in_err-result-in-Expr.field-0.0) (sym (rw c.as_str.ensures at c.command_name.ensures) ∙ c.in-Expr.is)
+    (then_stop (EvaluatesText level (spaced (map (text_in g.H.Commands.host state) c.args.arguments.now))) (λ result. Answers (Ok (value.Text (text_of result)))) w later c.in_err-result-in-Expr.field-0.0
     (rw is at c.in_err-result-in-Expr.ensures)))
 
 pub run_named-returns-in-Concat : goal.run_named-returns-in-Concat
@@ -149,12 +149,12 @@ run_named-returns-in_ok-result-in-Expr g below c =
     let level = level_of g.H.Commands.host c.args.level in
     let state = g.H.Commands.state c.args.host.now in
     let w = world c.args.run.now state in
-    let after = world c.evaluate.new.run (g.H.Commands.state c.evaluate.new.host) in
+    let later = world c.evaluate.new.run (g.H.Commands.state c.evaluate.new.host) in
     let is = rw c.as_slice-words.ensures at c.in_ok-text-in-Expr.ensures in
     let v = c.in_ok-result-in-Expr.result in
-    by_name level (named c.args.name.now) command.Expr c.args.name.now c.args.arguments.now w after _ (sym (rw c.as_str.ensures at c.command_name.ensures) ∙ c.in-Expr.is)
-    (then_ok (EvaluatesText level (spaced (map (text_in g.H.Commands.host state) c.args.arguments.now))) (λ result. Answers (Ok (value.Text (text_of result)))) v w after after c.as_value.result
-    (rw is at c.in_ok-result-in-Expr.ensures) (gave (Ok (value.Text (text_of v))) after c.as_value.result c.as_value.ensures))
+    by_name level (named c.args.name.now) command.Expr c.args.name.now c.args.arguments.now w later _ (sym (rw c.as_str.ensures at c.command_name.ensures) ∙ c.in-Expr.is)
+    (then_ok (EvaluatesText level (spaced (map (text_in g.H.Commands.host state) c.args.arguments.now))) (λ result. Answers (Ok (value.Text (text_of result)))) v w later later c.as_value.result
+    (rw is at c.in_ok-result-in-Expr.ensures) (gave (Ok (value.Text (text_of v))) later c.as_value.result c.as_value.ensures))
 
 -- ---- `foreach`
 
@@ -173,12 +173,12 @@ pub repeat-returns-in_err-run_body : goal.repeat-returns-in_err-run_body
 repeat-returns-in_err-run_body g below c =
     let level = level_of g.H.Commands.host c.args.level in
     let w = world c.args.run.now (g.H.Commands.state c.args.host.now) in
-    let after = world c.run_body.new.run (g.H.Commands.state c.run_body.new.host) in
+    let later = world c.run_body.new.run (g.H.Commands.state c.run_body.new.host) in
     let same = err_from_is_err_and c.from_residual-in_err-run_body.result c.from_residual-in_err-run_body.ensures.1 in
-    let ran = item_refused level c.as_str-name.result.now c.as_str-body.result.now c.as_slice-item-items.result.now _ _ c.item-item.result _ c.loop-item.run c.set.new.self (g.H.Commands.state c.loop-item.host) c.in_err-run_body.field-0.0 after
+    let ran = item_refused level c.as_str-name.result.now c.as_str-body.result.now c.as_slice-item-items.result.now _ _ c.item-item.result _ c.loop-item.run c.set.new.self (g.H.Commands.state c.loop-item.host) c.in_err-run_body.field-0.0 later
     c.loop-item.invariant (drop_item c.as_slice-item-items.result.now c.loop-item.item-index c.item-item.result c.loop-item-test.true c.item-item.is) c.in_ok-set.ensures.variables c.set.ensures.begun c.in_err-run_body.ensures in
     rw (same.1, same.2)
-    (repeats_run level c.args.arguments.now c.name-item.result c.list-item.result c.body-item.result c.as_str-name.result.now c.as_str-body.result.now c.in_ok-items.items c.item_values.result w after (Err c.in_err-run_body.field-0.0)
+    (repeats_run level c.args.arguments.now c.name-item.result c.list-item.result c.body-item.result c.as_str-name.result.now c.as_str-body.result.now c.in_ok-items.items c.item_values.result w later (Err c.in_err-run_body.field-0.0)
     (omega (arith, c.in-len3.len_at_least, c.in-len3.len_below)) c.name-item.is c.list-item.is c.body-item.is c.item_values.ensures (sym c.in_ok-items.was ∙ c.tcl_answer.ensures)
     (c.as_str-name.ensures ∙ c.in_ok-name.ensures) (c.as_str-body.ensures ∙ c.in_ok-body.ensures) (rw c.as_slice-item-items.ensures at ran))
 
@@ -191,10 +191,10 @@ pub repeat-returns : goal.repeat-returns
 repeat-returns g below c =
     let level = level_of g.H.Commands.host c.args.level in
     let w = world c.args.run.now (g.H.Commands.state c.args.host.now) in
-    let after = world c.loop-item.run (g.H.Commands.state c.loop-item.host) in
-    let ran = items_run level c.as_str-name.result.now c.as_str-body.result.now c.as_slice-item-items.result.now _ _ after c.loop-item.invariant (drop_all c.loop-item.item-index c.as_slice-item-items.result.now c.loop-item-test.false) in
+    let later = world c.loop-item.run (g.H.Commands.state c.loop-item.host) in
+    let ran = items_run level c.as_str-name.result.now c.as_str-body.result.now c.as_slice-item-items.result.now _ _ later c.loop-item.invariant (drop_all c.loop-item.item-index c.as_slice-item-items.result.now c.loop-item-test.false) in
     rw c.no_text.ensures
-    (repeats_run level c.args.arguments.now c.name-item.result c.list-item.result c.body-item.result c.as_str-name.result.now c.as_str-body.result.now c.in_ok-items.items c.item_values.result w after (Ok no_text)
+    (repeats_run level c.args.arguments.now c.name-item.result c.list-item.result c.body-item.result c.as_str-name.result.now c.as_str-body.result.now c.in_ok-items.items c.item_values.result w later (Ok no_text)
     (omega (arith, c.in-len3.len_at_least, c.in-len3.len_below)) c.name-item.is c.list-item.is c.body-item.is c.item_values.ensures (sym c.in_ok-items.was ∙ c.tcl_answer.ensures)
     (c.as_str-name.ensures ∙ c.in_ok-name.ensures) (c.as_str-body.ensures ∙ c.in_ok-body.ensures) (rw c.as_slice-item-items.ensures at ran))
 

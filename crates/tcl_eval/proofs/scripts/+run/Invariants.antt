@@ -1,7 +1,7 @@
 use Rattle.std.proofs.Common.{◌+◌, ◌*◌, ◌≤◌, drop, length, reverse}
-use Rattle.sdc_model.specs.BuiltIns.{no_text}
-use Rattle.sdc_model.specs.NamedCommands.{ReadsWord}
-use Rattle.sdc_model.specs.ScriptRun.{RunsCommand}
+use Rattle.tcl_model.specs.BuiltIns.{no_text}
+use Rattle.tcl_model.specs.NamedCommands.{ReadsWord}
+use Rattle.tcl_model.specs.ScriptRun.{RunsCommand}
 use Rattle.tcl_eval.specs.ScriptReads.{beginning}
 use Rattle.tcl_eval.specs.Worlds.{level_of, world}
 use Rattle.tcl_eval.proofs.CommandRuns.{RunsOn}
@@ -42,7 +42,7 @@ decreases-run_part g l = 16 * l.level.left + 2
 abbrev pub decreases-run_body : goal.decreases-run_body
 decreases-run_body g l = 16 * l.level.left
 
--- ---- whatever is told or given behind a place, is told or given from the beginning on
+-- ---- whatever is told or given after a place, is told or given from the beginning on
 
 abbrev pub invariant-run_body-loop-last : goal.invariant-run_body-loop-last
 invariant-run_body-loop-last g l =

@@ -1,5 +1,5 @@
 use Rattle.std.proofs.Common.{◌≡◌, ◌++◌, map, drop}
-use Rattle.sdc_model.specs.HostCalls.{text_in}
+use Rattle.tcl_model.specs.HostCalls.{text_in}
 use Rattle.tcl_eval.proofs.texts.text_values.Given as goal
 
 -- the texts so far and those of the values that are left are those of all

@@ -1,4 +1,4 @@
-use Rattle.sdc_model.specs.Continued.{from_command, parting}
+use Rattle.text_model.specs.Continued.{from_command, parting}
 use Rattle.tcl_words.proofs.BetweenFacts.{from_command_nil}
 use Rattle.tcl_words.proofs.GapFacts.{reached_end}
 use Rattle.tcl_words.proofs.between.command_start.Goals as goal

@@ -1,5 +1,5 @@
 use Rattle.std.proofs.Common.{length, ◌-◌}
-use Rattle.sdc_model.specs.Continued.{from_command, parting}
+use Rattle.text_model.specs.Continued.{from_command, parting}
 use Rattle.tcl_words.proofs.GapFacts.{Reached}
 use Rattle.tcl_words.proofs.between.command_start.Given as goal
 

@@ -1,5 +1,5 @@
 use Rattle.std.proofs.Common.{length, ◌-◌}
-use Rattle.sdc_model.specs.Continued.{comment, from_command}
+use Rattle.text_model.specs.Continued.{comment, from_command}
 use Rattle.tcl_words.specs.Spans.{Moves}
 use Rattle.tcl_words.proofs.between.comment_end.Given as goal
 

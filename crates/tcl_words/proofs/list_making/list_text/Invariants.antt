@@ -1,5 +1,5 @@
 use Rattle.std.proofs.Common.{◌≡◌, ◌++◌, drop}
-use Rattle.sdc_model.specs.ListText.{list_text, more_items}
+use Rattle.tcl_model.specs.ListText.{list_text, more_items}
 use Rattle.tcl_words.proofs.list_making.list_text.Given as goal
 
 -- what is made so far with the items that are left is the text of all

@@ -1,5 +1,5 @@
 use Rattle.std.proofs.Common.{◌≡◌, ◌++◌, ◌∷◌, [], ℕ, List, ap, get_or, length, subst, ◌∙◌}
-use Rattle.sdc_model.specs.ListText.{taken_as}
+use Rattle.tcl_model.specs.ListText.{taken_as}
 use Rattle.tcl_words.specs.Taken.{UntakenTo}
 use Rattle.tcl_words.proofs.TakenFacts.{pushed_taken}
 use Rattle.tcl_words.proofs.list_making.push_run.Goals as goal

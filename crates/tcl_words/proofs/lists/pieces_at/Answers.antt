@@ -1,6 +1,6 @@
 use Rattle.std.proofs.Common.{Err, Ok, drop, subst}
 use Rattle.std.proofs.lemmas.Result.{err_from_is_err_and}
-use Rattle.sdc_model.specs.ListItems as grammar
+use Rattle.tcl_model.specs.ListItems as grammar
 use Rattle.tcl_words.specs.declared.pieces.Step.{Step}
 use Rattle.tcl_words.specs.Forms.{form_of}
 use Rattle.tcl_words.specs.Steps.{StepAt}

@@ -1,6 +1,6 @@
 use Rattle.std.proofs.Common.{List, ℕ, Err, drop, subst}
 use Rattle.sdc_base.specs.Gives.{Meets}
-use Rattle.sdc_model.specs.Pieces as grammar
+use Rattle.tcl_model.specs.Pieces as grammar
 use Rattle.tcl_words.specs.declared.pieces.Step.{Step}
 use Rattle.tcl_words.specs.Steps.{StepAt}
 use Rattle.tcl_words.proofs.OperandFacts.{script_stop}

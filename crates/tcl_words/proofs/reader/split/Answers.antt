@@ -4,7 +4,7 @@ use Rattle.std.proofs.lemmas.Str.{IsCharBoundary-start}
 use Rattle.std.specs.Option.{IfSome}
 use Rattle.std.specs.Str.{IsCharBoundary}
 use Rattle.source_types.specs.declared.commands.Next.{Next}
-use Rattle.sdc_model.specs.Commands.{FirstFrom}
+use Rattle.tcl_model.specs.Commands.{FirstFrom}
 use Rattle.tcl_words.proofs.CommandFacts.{commands_all, commands_stop, commands_more, commands_none}
 use Rattle.tcl_words.proofs.reader.split.Goals as goal
 
@@ -20,7 +20,7 @@ pub loop-commands-smaller : goal.loop-commands-smaller
 loop-commands-smaller c =
     let text = c.args.text.now in
     let found : FirstFrom text c.loop-commands.at c.loop-commands.line (Ok (Some c.in-Some.next)) = subst (λ (o : Option Next). FirstFrom text c.loop-commands.at c.loop-commands.line (Ok o)) c.in-Some.is c.in_ok-next.ensures.outcome in
-    let behind : c.loop-commands.at < c.in-Some.next.end = subst (λ (o : Option Next). IfSome o (λ next. c.loop-commands.at < next.end)) c.in-Some.is c.in_ok-next.ensures.forward in
+    let after : c.loop-commands.at < c.in-Some.next.end = subst (λ (o : Option Next). IfSome o (λ next. c.loop-commands.at < next.end)) c.in-Some.is c.in_ok-next.ensures.forward in
     let within : c.in-Some.next.end ≤ length text = found.2 in
     omega arith
 

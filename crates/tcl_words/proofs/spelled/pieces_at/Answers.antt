@@ -1,7 +1,7 @@
 use Rattle.std.proofs.Common.{List, ℕ, Err, Ok, drop, subst}
 use Rattle.sdc_base.specs.Gives.{Meets}
 use Rattle.std.proofs.lemmas.Result.{err_from_is_err_and}
-use Rattle.sdc_model.specs.Pieces as grammar
+use Rattle.tcl_model.specs.Pieces as grammar
 use Rattle.tcl_words.specs.declared.pieces.Step.{Step}
 use Rattle.tcl_words.specs.declared.pieces.Step.TheVariants.{Ends}
 use Rattle.tcl_words.specs.Forms.{form_of}

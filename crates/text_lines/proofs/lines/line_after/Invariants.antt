@@ -1,5 +1,5 @@
 use Rattle.std.proofs.Common.{◌≡◌, drop}
-use Rattle.sdc_model.specs.Bytes.{line_after}
+use Rattle.text_model.specs.Bytes.{line_after}
 use Rattle.text_lines.proofs.lines.line_after.Given as goal
 
 abbrev pub invariant-loop-byte : goal.invariant-loop-byte

@@ -1,6 +1,6 @@
 use Rattle.std.proofs.Common.{◌≡◌, ◌+◌, ◌-◌, ◌++◌, Some, map}
-use Rattle.sdc_model.specs.Ranges.{from_to}
-use Rattle.sdc_model.specs.VerilogNets.{net_bit}
+use Rattle.netlist_model.specs.Ranges.{from_to}
+use Rattle.netlist_model.specs.VerilogNets.{net_bit}
 use Rattle.verilog_net.proofs.bits.add_range.Given as goal
 
 abbrev pub invariant-loop-index : goal.invariant-loop-index

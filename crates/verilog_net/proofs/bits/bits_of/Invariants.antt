@@ -1,5 +1,5 @@
 use Rattle.std.proofs.Common.{◌≡◌, ◌++◌, drop}
-use Rattle.sdc_model.specs.VerilogNets as nets
+use Rattle.netlist_model.specs.VerilogNets as nets
 use Rattle.verilog_net.specs.Names.{declarations_of}
 use Rattle.verilog_net.specs.Syntax.{pieces_seen}
 use Rattle.verilog_net.proofs.bits.bits_of.Given as goal

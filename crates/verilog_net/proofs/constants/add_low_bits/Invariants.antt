@@ -1,5 +1,5 @@
 use Rattle.std.proofs.Common.{◌≡◌, ◌≤◌, ◌++◌}
-use Rattle.sdc_model.specs.VerilogConstants as grammar
+use Rattle.netlist_model.specs.VerilogConstants as grammar
 use Rattle.verilog_net.proofs.constants.add_low_bits.Given as goal
 
 abbrev pub invariant-loop-left : goal.invariant-loop-left

@@ -1,6 +1,6 @@
 use Rattle.std.proofs.Common.{◌≡◌, ◌++◌, drop}
 use Rattle.std.specs.List.{flat_map}
-use Rattle.sdc_model.specs.VerilogConstants as grammar
+use Rattle.netlist_model.specs.VerilogConstants as grammar
 use Rattle.verilog_net.proofs.constants.all_bits.Given as goal
 
 abbrev pub invariant-loop-digit : goal.invariant-loop-digit

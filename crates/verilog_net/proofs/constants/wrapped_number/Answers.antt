@@ -1,6 +1,6 @@
 use Rattle.std.proofs.Common.{get_or}
 use Rattle.verilog_net.proofs.ConstantFacts.{wrapped_all, wrapped_few, wrapped_step}
-use Rattle.sdc_model.specs.VerilogConstants.{next_number}
+use Rattle.netlist_model.specs.VerilogConstants.{next_number}
 use Rattle.verilog_net.proofs.constants.wrapped_number.Goals as goal
 
 pub loop-digit-preserved : goal.loop-digit-preserved

@@ -1,5 +1,5 @@
 use Rattle.std.proofs.Common.{◌≡◌, ◌++◌, drop}
-use Rattle.sdc_model.specs.VerilogSyntax as grammar
+use Rattle.netlist_model.specs.VerilogSyntax as grammar
 use Rattle.verilog_net.specs.Seen.{tokens_seen}
 use Rattle.verilog_net.specs.Syntax.{declareds_seen}
 use Rattle.verilog_net.proofs.declarations.add_header_declares.Given as goal

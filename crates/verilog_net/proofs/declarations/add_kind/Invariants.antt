@@ -1,6 +1,6 @@
 use Rattle.std.proofs.Common.{◌≡◌, ◌++◌, drop}
 use Rattle.std.specs.List.{filter}
-use Rattle.sdc_model.specs.VerilogSyntax as grammar
+use Rattle.netlist_model.specs.VerilogSyntax as grammar
 use Rattle.verilog_net.specs.Seen.{tokens_seen}
 use Rattle.verilog_net.proofs.declarations.add_kind.Given as goal
 

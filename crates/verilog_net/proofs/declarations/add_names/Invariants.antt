@@ -1,8 +1,8 @@
 use Rattle.std.proofs.Common.{◌≡◌, ◌++◌, drop, map}
 use Rattle.std.specs.List.{filter}
 use Rattle.source_types.specs.declared.verilog_tokens.VerilogToken.TheVariants as kind
-use Rattle.sdc_model.specs.VerilogSyntax as grammar
-use Rattle.sdc_model.specs.VerilogTokens.{Token}
+use Rattle.netlist_model.specs.VerilogSyntax as grammar
+use Rattle.netlist_model.specs.VerilogTokens.{Token}
 use Rattle.verilog_net.specs.Seen.{tokens_seen}
 use Rattle.verilog_net.specs.Syntax.{declareds_seen, role_seen}
 use Rattle.verilog_net.proofs.declarations.add_names.Given as goal

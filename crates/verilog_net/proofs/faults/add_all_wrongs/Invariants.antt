@@ -1,6 +1,6 @@
 use Rattle.std.proofs.Common.{◌≡◌, ◌++◌, drop}
 use Rattle.std.specs.List.{flat_map}
-use Rattle.sdc_model.specs.Verilog as spec
+use Rattle.netlist_model.specs.Verilog as spec
 use Rattle.verilog_net.specs.Faults.{wrongs_seen}
 use Rattle.verilog_net.specs.Names.{named_modules}
 use Rattle.verilog_net.proofs.faults.add_all_wrongs.Given as goal

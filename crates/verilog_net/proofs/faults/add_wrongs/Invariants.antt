@@ -1,5 +1,5 @@
 use Rattle.std.proofs.Common.{◌≡◌, ◌++◌, drop, map}
-use Rattle.sdc_model.specs.Verilog as spec
+use Rattle.netlist_model.specs.Verilog as spec
 use Rattle.verilog_net.specs.Faults.{wrongs_seen}
 use Rattle.verilog_net.specs.Seen.{tokens_seen}
 use Rattle.verilog_net.proofs.faults.add_wrongs.Given as goal

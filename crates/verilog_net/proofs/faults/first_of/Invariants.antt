@@ -1,6 +1,6 @@
 use Rattle.std.proofs.Common.{◌≡◌, drop}
 use Rattle.std.specs.Option.{option_map}
-use Rattle.sdc_model.specs.Verilog as spec
+use Rattle.netlist_model.specs.Verilog as spec
 use Rattle.verilog_net.specs.Faults.{wrong_seen, wrongs_seen}
 use Rattle.verilog_net.proofs.FaultFacts.{joined}
 use Rattle.verilog_net.proofs.faults.first_of.Given as goal

@@ -1,5 +1,5 @@
 use Rattle.std.proofs.Common.{◌≡◌, ◌++◌, drop, map}
-use Rattle.sdc_model.specs.VerilogStatements as grammar
+use Rattle.netlist_model.specs.VerilogStatements as grammar
 use Rattle.verilog_net.specs.Names.{named_modules}
 use Rattle.verilog_net.specs.Seen.{tokens_seen}
 use Rattle.verilog_net.proofs.faults.module_names.Given as goal

@@ -1,7 +1,7 @@
 use Rattle.std.proofs.Common.{◌≡◌, ◌++◌, drop, map}
 use Rattle.std.specs.List.{flat_map}
-use Rattle.sdc_model.specs.VerilogNets as nets
-use Rattle.sdc_model.specs.VerilogStatements as grammar
+use Rattle.netlist_model.specs.VerilogNets as nets
+use Rattle.netlist_model.specs.VerilogStatements as grammar
 use Rattle.verilog_net.specs.Syntax.{parts_seen, pieces_seen}
 use Rattle.verilog_net.proofs.faults.pieces_of_all.Given as goal
 

@@ -1,7 +1,7 @@
 use Rattle.std.proofs.Common.{◌≡◌, ◌++◌, drop, map}
 use Rattle.std.specs.List.{flat_map}
-use Rattle.sdc_model.specs.Verilog as spec
-use Rattle.sdc_model.specs.VerilogStatements as grammar
+use Rattle.netlist_model.specs.Verilog as spec
+use Rattle.netlist_model.specs.VerilogStatements as grammar
 use Rattle.verilog_net.specs.Names.{declarations_of}
 use Rattle.verilog_net.specs.Seen.{tokens_seen}
 use Rattle.verilog_net.specs.Syntax.{parts_seen}

@@ -1,5 +1,5 @@
 use Rattle.std.proofs.Common.{◌≡◌, ◌++◌, drop, map}
-use Rattle.sdc_model.specs.VerilogNets as nets
+use Rattle.netlist_model.specs.VerilogNets as nets
 use Rattle.verilog_net.specs.Names.{named_modules}
 use Rattle.verilog_net.proofs.meant.meant_modules.Given as goal
 

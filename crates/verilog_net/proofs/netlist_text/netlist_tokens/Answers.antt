@@ -1,5 +1,5 @@
 use Rattle.std.proofs.Common.{List, ℕ, subst}
-use Rattle.verilog_net.proofs.BreakFacts.{no_text}
+use Rattle.verilog_net.proofs.ErrorFacts.{no_text}
 use Rattle.verilog_net.proofs.netlist_text.netlist_tokens.Goals as goal
 use Rattle.verilog_net.specs.Recognition.{Recognises}
 

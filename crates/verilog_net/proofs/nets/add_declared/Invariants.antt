@@ -1,5 +1,5 @@
 use Rattle.std.proofs.Common.{◌≡◌, ◌++◌, drop, map}
-use Rattle.sdc_model.specs.VerilogNets as nets
+use Rattle.netlist_model.specs.VerilogNets as nets
 use Rattle.verilog_net.specs.Names.{declarations_of}
 use Rattle.verilog_net.specs.Syntax.{declareds_seen}
 use Rattle.verilog_net.specs.Wires.{candidates_seen}

@@ -1,5 +1,5 @@
 use Rattle.std.proofs.Common.{◌≡◌, ◌++◌, drop, map}
-use Rattle.sdc_model.specs.WellFormedNetlist.{net_of_port}
+use Rattle.netlist_model.specs.WellFormedNetlist.{net_of_port}
 use Rattle.verilog_net.proofs.nets.add_port_nets.Given as goal
 
 abbrev pub invariant-loop-port : goal.invariant-loop-port

@@ -1,6 +1,6 @@
 use Rattle.std.proofs.Common.{◌≡◌, ◌++◌, drop}
 use Rattle.std.specs.List.{filter_map}
-use Rattle.sdc_model.specs.VerilogNets as nets
+use Rattle.netlist_model.specs.VerilogNets as nets
 use Rattle.verilog_net.specs.Names.{declarations_of}
 use Rattle.verilog_net.specs.Syntax.{pieces_seen}
 use Rattle.verilog_net.specs.Wires.{candidates_seen}

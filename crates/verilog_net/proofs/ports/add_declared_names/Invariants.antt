@@ -1,5 +1,5 @@
 use Rattle.std.proofs.Common.{◌≡◌, ◌++◌, drop, map}
-use Rattle.sdc_model.specs.VerilogSyntax as syntax
+use Rattle.netlist_model.specs.VerilogSyntax as syntax
 use Rattle.verilog_net.specs.Seen.{tokens_seen}
 use Rattle.verilog_net.specs.Syntax.{declareds_seen}
 use Rattle.verilog_net.specs.Wires.{texts}

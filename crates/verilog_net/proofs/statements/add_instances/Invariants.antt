@@ -1,7 +1,7 @@
 use Rattle.std.proofs.Common.{◌≡◌, ◌++◌, drop}
 use Rattle.std.specs.List.{flat_map}
-use Rattle.sdc_model.specs.VerilogStatements as grammar
-use Rattle.sdc_model.specs.VerilogNets.{connected}
+use Rattle.netlist_model.specs.VerilogStatements as grammar
+use Rattle.netlist_model.specs.VerilogNets.{connected}
 use Rattle.verilog_net.specs.Seen.{token_seen}
 use Rattle.verilog_net.specs.Syntax.{parts_seen, pieces_seen}
 use Rattle.verilog_net.proofs.statements.add_instances.Given as goal

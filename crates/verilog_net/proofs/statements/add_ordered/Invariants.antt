@@ -1,6 +1,6 @@
 use Rattle.std.proofs.Common.{◌≡◌, ◌++◌, List, drop, map}
 use Rattle.std.specs.List.{flat_map}
-use Rattle.sdc_model.specs.VerilogSyntax as syntax
+use Rattle.netlist_model.specs.VerilogSyntax as syntax
 use Rattle.verilog_net.specs.Syntax.{parts_seen, pieces_seen}
 use Rattle.verilog_net.proofs.statements.add_ordered.Given as goal
 

@@ -1,6 +1,6 @@
 use Rattle.std.proofs.Common.{◌≡◌, drop}
 use Rattle.std.specs.List.{flat_map}
-use Rattle.sdc_model.specs.Verilog as spec
+use Rattle.netlist_model.specs.Verilog as spec
 use Rattle.verilog_net.specs.Names.{declarations_of}
 use Rattle.verilog_net.specs.Syntax.{pieces_seen}
 use Rattle.verilog_net.proofs.uses.all_known.Given as goal

@@ -1,7 +1,7 @@
 use Rattle.std.proofs.Common.{◌≡◌, drop, map}
 use Rattle.std.specs.List.{list_any}
-use Rattle.sdc_model.specs.Verilog as spec
-use Rattle.sdc_model.specs.VerilogStatements as grammar
+use Rattle.netlist_model.specs.Verilog as spec
+use Rattle.netlist_model.specs.VerilogStatements as grammar
 use Rattle.verilog_net.specs.Names.{declarations_of}
 use Rattle.verilog_net.specs.Syntax.{parts_seen}
 use Rattle.verilog_net.proofs.uses.any_uneven.Given as goal

@@ -1,5 +1,5 @@
 use Rattle.std.proofs.Common.{◌≡◌, ◌++◌, drop}
-use Rattle.sdc_model.specs.Verilog as spec
+use Rattle.netlist_model.specs.Verilog as spec
 use Rattle.verilog_net.specs.Names.{declarations_of}
 use Rattle.verilog_net.specs.Seen.{tokens_seen}
 use Rattle.verilog_net.proofs.uses.undeclared.Given as goal

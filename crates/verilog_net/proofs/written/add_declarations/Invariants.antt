@@ -1,6 +1,6 @@
 use Rattle.std.proofs.Common.{◌≡◌, ◌++◌, drop, map}
 use Rattle.std.specs.List.{flat_map}
-use Rattle.sdc_model.specs.VerilogStatements as grammar
+use Rattle.netlist_model.specs.VerilogStatements as grammar
 use Rattle.verilog_net.specs.Syntax.{declareds_seen, parts_seen}
 use Rattle.verilog_net.proofs.written.add_declarations.Given as goal
 

@@ -1,4 +1,4 @@
-use Rattle.sdc_model.specs.FunctionValue.{AgreesBelow}
+use Rattle.function_model.specs.FunctionValue.{AgreesBelow}
 use Rattle.bool_lanes.proofs.known.Known.allows.Given as goal
 
 abbrev pub invariant-loop-pin : goal.invariant-loop-pin

@@ -1,5 +1,5 @@
 use Rattle.std.proofs.Common.{ℕ, ◌<◌}
-use Rattle.sdc_model.specs.FunctionValue.{ChangesAt}
+use Rattle.function_model.specs.FunctionValue.{ChangesAt}
 use Rattle.bool_lanes.proofs.table.Table.depends.Given as goal
 
 abbrev pub invariant-loop-completion : goal.invariant-loop-completion

@@ -1,5 +1,5 @@
 use Rattle.std.proofs.Common.{◌≡◌, ◌↔◌, Some, sym, subst}
-use Rattle.sdc_model.specs.FunctionValue.{Forces}
+use Rattle.function_model.specs.FunctionValue.{Forces}
 use Rattle.bool_lanes.proofs.ForcedFacts.{forced_is}
 use Rattle.bool_lanes.proofs.table.Table.forced.Goals as goal
 

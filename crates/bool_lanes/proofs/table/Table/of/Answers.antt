@@ -1,5 +1,5 @@
 use Rattle.std.proofs.Common.{◌≡◌, ◌≢◌, ◌≤◌, ◌<◌, ◌^◌, false, length, get_or, set, get_or-set_other, get_or-set_same, length-set, below_more, arith, subst}
-use Rattle.sdc_model.specs.FunctionValue.{pin_value, value_of}
+use Rattle.function_model.specs.FunctionValue.{pin_value, value_of}
 use Rattle.bool_lanes.proofs.Completions.{few_completions}
 use Rattle.bool_lanes.proofs.table.Table.of.Goals as goal
 

@@ -1,6 +1,6 @@
 use Rattle.std.proofs.Common.{◌≡◌, ℕ, ◌<◌, length, get_or}
 use Rattle.std.specs.Prelude.{false}
-use Rattle.sdc_model.specs.FunctionValue.{pin_value, value_of}
+use Rattle.function_model.specs.FunctionValue.{pin_value, value_of}
 use Rattle.bool_lanes.proofs.table.Table.of.Given as goal
 
 abbrev pub invariant-loop-completion : goal.invariant-loop-completion

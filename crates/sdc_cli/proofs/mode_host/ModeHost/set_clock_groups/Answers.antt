@@ -1,5 +1,5 @@
 use Rattle.std.proofs.Common.{◌≡◌, ◌∙◌, Some, sym}
-use Rattle.sdc_model.specs.ClockCommands.{groups_of}
+use Rattle.mode_model.specs.ClockCommands.{groups_of}
 use Rattle.sdc_cli.proofs.GroupPlaces.{groups_of-below}
 use Rattle.sdc_cli.proofs.mode_host.ModeHost.set_clock_groups.Goals as goal
 

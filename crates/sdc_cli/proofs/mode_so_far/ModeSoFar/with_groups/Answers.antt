@@ -1,5 +1,5 @@
 use Rattle.std.proofs.Common.{sym, length, subst}
-use Rattle.sdc_model.specs.ClockFile.{SoFar}
+use Rattle.mode_model.specs.ClockFile.{SoFar}
 use Rattle.sdc_cli.specs.Exclusive.{AllBelow}
 use Rattle.sdc_cli.proofs.GroupPlaces.{CommandsBelow-push}
 use Rattle.sdc_cli.proofs.mode_so_far.ModeSoFar.with_groups.Goals as goal

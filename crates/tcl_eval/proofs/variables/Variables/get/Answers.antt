@@ -1,5 +1,5 @@
 use Rattle.std.proofs.Common.{◌∙◌, ap}
-use Rattle.sdc_model.specs.Variables.{variable_in}
+use Rattle.tcl_model.specs.Variables.{variable_in}
 use Rattle.tcl_eval.proofs.VariableFacts.{found}
 use Rattle.tcl_eval.proofs.variables.Variables.get.Goals as goal
 

@@ -1,5 +1,5 @@
 use Rattle.std.proofs.Common.{◌≡◌, List, sym, subst}
-use Rattle.sdc_model.specs.Enclosed as grammar
+use Rattle.text_model.specs.Enclosed as grammar
 use Rattle.tcl_words.specs.declared.enclosed.Open.{Open}
 use Rattle.tcl_words.specs.Nests.{changed, open_of}
 use Rattle.tcl_words.proofs.enclosed.Open.change.Goals as goal

@@ -1,0 +1,3 @@
+pub mod CheckStops
+pub mod Explained
+pub mod Findings

@@ -1,5 +1,0 @@
-use Rattle.clock_map.proofs.SharedClocks.{apart}
-use Rattle.clock_map.proofs.map_laws.clocks_of_a_mode_are_apart.Goals as goal
-
-pub returns : goal.returns
-returns c = apart

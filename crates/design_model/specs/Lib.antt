@@ -1,0 +1,4 @@
+pub mod DesignPins
+pub mod LibraryArcs
+pub mod UsableLibrary
+pub mod WellFormedDesign

@@ -1,7 +1,0 @@
-use Rattle.flat_design.proofs.AllFeedFacts.{spot_added}
-use Rattle.flat_design.proofs.all_feeds.add_spot.Goals as goal
-
-pub returns : goal.returns
-returns c = λ found at.
-    spot_added c.args.design.now found c.args.rows.now c.add_ports.new.rows c.add_ties.new.rows c.add_assigns.new.rows (c.in_ok-add_ports.ensures found at)
-    (c.in_ok-add_ties.ensures found at) (c.in_ok-add_assigns.ensures found at)

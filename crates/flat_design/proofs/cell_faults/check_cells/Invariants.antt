@@ -1,8 +1,0 @@
--- No cell so far has a fault.
-use Rattle.sdc_model.specs.FlatDesign.{FlatCell}
-use Rattle.sdc_model.specs.FlatFaults.{CellHas}
-use Rattle.flat_design.specs.NamedFaults.{HaveNoneBefore, flat_of}
-use Rattle.flat_design.proofs.cell_faults.check_cells.Given as goal
-
-abbrev pub invariant-loop-place : goal.invariant-loop-place
-invariant-loop-place l = HaveNoneBefore FlatCell (CellHas (flat_of l.design)) (flat_of l.design).cells l.place

@@ -1,0 +1,4 @@
+pub mod FunctionGrammar
+pub mod FunctionMeaning
+pub mod FunctionText
+pub mod FunctionValue

@@ -1,0 +1,15 @@
+pub mod CellArcs
+pub mod CellForms
+pub mod CellFunctions
+pub mod ClearParts
+pub mod DistinctCells
+pub mod DistinctInputs
+pub mod FunctionPins
+pub mod LibertyExamples
+pub mod LibraryMeans
+pub mod NamedUnits
+pub mod OneLibrary
+pub mod ReadIsSpelled
+pub mod RisingCells
+pub mod SpelledIsRead
+pub mod UsableLibraries

@@ -1,0 +1,3 @@
+pub mod IdentityExamples
+pub mod KeyLineExamples
+pub mod Requirements

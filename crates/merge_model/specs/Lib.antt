@@ -1,0 +1,17 @@
+pub mod CarriedDelays
+pub mod CarriedExceptions
+pub mod ClockIdentity
+pub mod CommonParts
+pub mod Excess
+pub mod Exclusive
+pub mod KeyLines
+pub mod KeyNeed
+pub mod Merge
+pub mod MergePools
+pub mod MergeRules
+pub mod MergeStops
+pub mod MergedClocks
+pub mod MergedMode
+pub mod NotCarried
+pub mod PlainViews
+pub mod Required

@@ -1,0 +1,9 @@
+pub mod ClockCommands
+pub mod ClockFile
+pub mod ClockGroups
+pub mod ModeHost
+pub mod ModeMeaning
+pub mod PrintedCommands
+pub mod PrintedFile
+pub mod PrintedLine
+pub mod Waveform

@@ -1,0 +1,15 @@
+pub mod ConnectedBits
+pub mod FaultlessModules
+pub mod LeftSides
+pub mod NetBits
+pub mod NetDeclarations
+pub mod NetNames
+pub mod NetTexts
+pub mod NetlistMeans
+pub mod NetsOfModules
+pub mod OneNetlist
+pub mod ReadNetlists
+pub mod SmallNetlists
+pub mod VerilogExamples
+pub mod VerilogFaultExamples
+pub mod VerilogFormExamples

@@ -1,0 +1,12 @@
+pub mod Ranges
+pub mod Verilog
+pub mod VerilogBits
+pub mod VerilogConstants
+pub mod VerilogGrammar
+pub mod VerilogKinds
+pub mod VerilogNets
+pub mod VerilogStatements
+pub mod VerilogSyntax
+pub mod VerilogTokens
+pub mod VerilogWords
+pub mod WellFormedNetlist

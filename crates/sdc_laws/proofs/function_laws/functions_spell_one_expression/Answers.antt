@@ -1,5 +1,0 @@
-use Rattle.sdc_laws.proofs.SpelledIsRead.{spells_one}
-use Rattle.sdc_laws.proofs.function_laws.functions_spell_one_expression.Goals as goal
-
-pub returns : goal.returns
-returns c = λ names text d e. spells_one names text d e

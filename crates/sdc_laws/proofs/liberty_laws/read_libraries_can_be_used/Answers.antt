@@ -1,5 +1,0 @@
-use Rattle.sdc_laws.proofs.UsableLibraries.{library_usable}
-use Rattle.sdc_laws.proofs.liberty_laws.read_libraries_can_be_used.Goals as goal
-
-pub returns : goal.returns
-returns c = λ bytes library. library_usable bytes library

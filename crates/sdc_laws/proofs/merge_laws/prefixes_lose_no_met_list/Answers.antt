@@ -1,5 +1,0 @@
-use Rattle.sdc_laws.proofs.MetLists.{no_list_lost}
-use Rattle.sdc_laws.proofs.merge_laws.prefixes_lose_no_met_list.Goals as goal
-
-pub returns : goal.returns
-returns c lists node nodes count more is after = no_list_lost lists node nodes count more is after

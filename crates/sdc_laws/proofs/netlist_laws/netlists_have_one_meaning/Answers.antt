@@ -1,9 +1,0 @@
-use Rattle.sdc_laws.proofs.NetlistMeans.{netlist_some}
-use Rattle.sdc_laws.proofs.OneNetlist.{netlist_once}
-use Rattle.sdc_laws.proofs.netlist_laws.netlists_have_one_meaning.Goals as goal
-
-pub returns-clause-some : goal.returns-clause-some
-returns-clause-some c = λ bytes. netlist_some bytes
-
-pub returns-clause-one : goal.returns-clause-one
-returns-clause-one c = λ bytes one other h k. netlist_once bytes one other h k

@@ -1,5 +1,0 @@
-use Rattle.sdc_laws.proofs.ReadNetlists.{netlist_fine}
-use Rattle.sdc_laws.proofs.netlist_laws.read_netlists_can_be_flattened.Goals as goal
-
-pub returns : goal.returns
-returns c = λ bytes modules. netlist_fine bytes modules

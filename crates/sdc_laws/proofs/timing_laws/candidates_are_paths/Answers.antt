@@ -1,6 +1,0 @@
-use Rattle.sdc_laws.proofs.CandidatePaths.{path_so}
-use Rattle.sdc_laws.proofs.timing_laws.candidates_are_paths.Goals as goal
-
-pub returns : goal.returns
-returns c analysis path side candidate =
-    path_so analysis side path.launch path.capture path.nodes candidate.ends candidate.are_ends candidate.launched candidate.captured

@@ -1,5 +1,0 @@
-use Rattle.std.proofs.Common.{[]}
-use Rattle.sdc_laws.proofs.timing_laws.clocks_arrive_at_their_sources.Goals as goal
-
-pub returns : goal.returns
-returns c graph alive clocks edge node same source = ([], (same, source))

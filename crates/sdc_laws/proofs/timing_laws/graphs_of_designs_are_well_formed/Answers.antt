@@ -1,5 +1,0 @@
-use Rattle.sdc_laws.proofs.BuiltGraphs.{built_graph}
-use Rattle.sdc_laws.proofs.timing_laws.graphs_of_designs_are_well_formed.Goals as goal
-
-pub returns : goal.returns
-returns c design graph well is = built_graph design graph is well

@@ -1,5 +1,0 @@
-use Rattle.sdc_laws.proofs.InnerNodes.{inner_free}
-use Rattle.sdc_laws.proofs.timing_laws.launching_and_checked_pins_end_paths.Goals as goal
-
-pub returns : goal.returns
-returns c design graph last before is path = inner_free design graph is last before path.0

@@ -1,6 +1,0 @@
-use Rattle.sdc_model.specs.Matching.{MatchesAt}
-use Rattle.sdc_laws.proofs.OneWinner.{one_winner}
-use Rattle.sdc_laws.proofs.timing_laws.one_exception_wins.Goals as goal
-
-pub returns : goal.returns
-returns c exceptions path side periods place other = one_winner exceptions (MatchesAt exceptions path side) side periods place other

@@ -1,0 +1,5 @@
+pub mod BuiltInExamples
+pub mod CallExamples
+pub mod ListExamples
+pub mod PassedOver
+pub mod RunExamples
