@@ -14,7 +14,7 @@ use Rattle.lib_cells.specs.CellFacts.{Describes}
 use Rattle.lib_cells.specs.CellValues.{has_wide, pin_value, refused}
 use Rattle.lib_cells.specs.FunctionNames.{function_value, is_wide_text, names_of, placed_if}
 use Rattle.lib_cells.specs.RelatedPins.{related_all}
-use Rattle.lib_cells.specs.declared.cell_names.CellNames.{CellNames}
+use Rattle.lib_cells.specs.declared.cell.cell_names.CellNames.{CellNames}
 use Rattle.lib_cells.proofs.RelatedFacts.{related_same}
 
 -- ---- names that functions are read with

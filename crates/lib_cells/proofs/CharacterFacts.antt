@@ -4,7 +4,7 @@ use Rattle.std.specs.Prelude.{map}
 use Rattle.std.proofs.lemmas.List.{append-nil}
 use Rattle.library_model.specs.LibertyTokens.{Character, Within, bytes_of, character, characters, line_past, plain, shown, within_at_end, within_after}
 use Rattle.lib_cells.specs.Characters.{AreCharacters, IsAdded, lines_of, on_line}
-use Rattle.lib_cells.specs.declared.characters.Characters.{Characters}
+use Rattle.lib_cells.specs.declared.scanning.characters.Characters.{Characters}
 use Rattle.lib_cells.specs.Seen.{within_seen}
 
 -- the characters of a text are those found and those of the rest, which stands in something and begins on a line

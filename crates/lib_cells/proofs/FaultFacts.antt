@@ -16,7 +16,7 @@ use Rattle.lib_cells.specs.FirstFaults as first_faults
 use Rattle.lib_cells.specs.FirstFaults.{first, first_among, or_fault}
 use Rattle.bool_lanes.specs.NamedNumbers.{HasPlaces, least, number_at, number_if}
 use Rattle.lib_cells.specs.CellNumbers.{HasCells, cell_number}
-use Rattle.lib_cells.specs.declared.cell_names.CellNames.{CellNames}
+use Rattle.lib_cells.specs.declared.cell.cell_names.CellNames.{CellNames}
 use Rattle.bool_lanes.specs.declared.numbers.Numbers.{Numbers}
 use Rattle.lib_cells.proofs.CellNumberFacts.{place_from-is_among}
 

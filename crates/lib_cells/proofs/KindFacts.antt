@@ -9,7 +9,7 @@ use Rattle.library_model.specs.LibertyTokens as grammar
 use Rattle.source_types.specs.declared.liberty_tokens.Gap.{Gap}
 use Rattle.source_types.specs.declared.liberty_tokens.Gap.TheVariants.{Blanks, LineEnd, Nothing}
 use Rattle.source_types.specs.declared.liberty_tokens.LibertyToken.{LibertyToken}
-use Rattle.lib_cells.specs.declared.tokens.Token.{Token}
+use Rattle.lib_cells.specs.declared.scanning.tokens.Token.{Token}
 use Rattle.lib_cells.specs.Seen.{form_seen, token_seen, tokens_seen}
 
 -- ---- gaps

@@ -8,10 +8,10 @@ use Rattle.library_model.specs.LibertyTokens as grammar
 use Rattle.library_model.specs.LibertyTokens.{Character, Ending, Form, at_end, bare, bare_len, bytes_of, front_after, gap_len, in_quotes, is_bare_byte, parts, quoted, quoted_front, sign, token_front, token_of}
 use Rattle.text_model.specs.Row.{Front, found, stops}
 use Rattle.lib_cells.specs.Characters.{Shows}
-use Rattle.lib_cells.specs.declared.lexing.Step.{Step}
-use Rattle.lib_cells.specs.declared.lexing.Step.TheVariants.{End, Found, InQuotes}
-use Rattle.lib_cells.specs.declared.rest.Rest.{Rest}
-use Rattle.lib_cells.specs.declared.tokens.Token.{Token}
+use Rattle.lib_cells.specs.declared.scanning.lexing.Step.{Step}
+use Rattle.lib_cells.specs.declared.scanning.lexing.Step.TheVariants.{End, Found, InQuotes}
+use Rattle.lib_cells.specs.declared.scanning.rest.Rest.{Rest}
+use Rattle.lib_cells.specs.declared.scanning.tokens.Token.{Token}
 use Rattle.lib_cells.specs.Lexing.{AfterAt, IsFront, LeavesLess, QuotedAt, TokenAt, before_quote}
 use Rattle.lib_cells.specs.Scan.{bare_bytes, is_no_quote}
 use Rattle.lib_cells.specs.Seen.{form_seen, token_seen}

@@ -5,7 +5,7 @@ use Rattle.library_model.specs.LibertyCells.{is_bus}
 use Rattle.library_model.specs.LibertyStatements.{Member}
 use Rattle.lib_cells.specs.Members.{members_seen}
 use Rattle.lib_cells.specs.Pins.{is_bus_part}
-use Rattle.lib_cells.specs.declared.members.Member.{Member as Held}
+use Rattle.lib_cells.specs.declared.syntax.members.Member.{Member as Held}
 
 bus_is : (parts : List Held) → list_any is_bus_part parts ≡ list_any (λ (part : Member). is_bus part.statement) (members_seen parts)
 bus_is [] = refl

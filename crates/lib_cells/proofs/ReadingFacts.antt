@@ -16,10 +16,10 @@ use Rattle.library_model.specs.LibertyStatements.{Statement, statements_of}
 use Rattle.library_model.specs.LibertyText.{ReadsLibrary, library_if, read}
 use Rattle.library_model.specs.LibertyTokens.{IsLexed, Token, Within, characters, is_in_comment, is_unfinished, plain}
 use Rattle.lib_cells.specs.Characters.{AreCharacters, Shows}
-use Rattle.lib_cells.specs.declared.characters.Characters.{Characters}
-use Rattle.lib_cells.specs.declared.lexing.Lexed.{Lexed}
-use Rattle.lib_cells.specs.declared.statements.Statement.{Statement as HeldStatement}
-use Rattle.lib_cells.specs.declared.tokens.Token.{Token as Held}
+use Rattle.lib_cells.specs.declared.scanning.characters.Characters.{Characters}
+use Rattle.lib_cells.specs.declared.scanning.lexing.Lexed.{Lexed}
+use Rattle.lib_cells.specs.declared.syntax.statements.Statement.{Statement as HeldStatement}
+use Rattle.lib_cells.specs.declared.scanning.tokens.Token.{Token as Held}
 use Rattle.lib_cells.specs.Lexing.{AreLexed}
 use Rattle.lib_cells.specs.Reading.{ReadsText}
 use Rattle.lib_cells.specs.Recognition.{HasError, outcome_of}

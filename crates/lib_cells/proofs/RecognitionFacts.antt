@@ -7,7 +7,7 @@ use Rattle.source_types.specs.declared.liberty_tokens.LibertySymbol.TheVariants 
 use Rattle.source_types.specs.declared.liberty_tokens.LibertyToken.{LibertyToken}
 use Rattle.library_model.specs.LibertyGrammar.{formed, kinds, liberty, line_at}
 use Rattle.library_model.specs.LibertyTokens.{Token}
-use Rattle.lib_cells.specs.declared.tokens.Token.{Token as Held}
+use Rattle.lib_cells.specs.declared.scanning.tokens.Token.{Token as Held}
 use Rattle.lib_cells.specs.Recognition.{HasError, outcome_of}
 use Rattle.lib_cells.specs.Seen.{token_seen, tokens_seen}
 

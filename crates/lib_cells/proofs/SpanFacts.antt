@@ -7,8 +7,8 @@ use Rattle.library_model.specs.LibertyTokens as grammar
 use Rattle.lib_cells.specs.Said.{has_brace}
 use Rattle.lib_cells.specs.Seen.{statement_seen, statements_seen, token_seen, tokens_seen}
 use Rattle.lib_cells.specs.Spans.{deeper_len, goes_on, is_brace, stays_open}
-use Rattle.lib_cells.specs.declared.statements.Statement.{Statement}
-use Rattle.lib_cells.specs.declared.tokens.Token.{Token}
+use Rattle.lib_cells.specs.declared.syntax.statements.Statement.{Statement}
+use Rattle.lib_cells.specs.declared.scanning.tokens.Token.{Token}
 
 within_step : (level : ℕ) (x : Statement) (xs : List Statement) (n : ℕ) → statements_seen (take n xs) ≡ within level (statements_seen xs)
     → (t : Bool) → statements_seen (take (cond t (1 + n) 0) (x ∷ xs)) ≡ cond t (statement_seen x ∷ within level (statements_seen xs)) []

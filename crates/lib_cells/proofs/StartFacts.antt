@@ -7,9 +7,9 @@ use Rattle.library_model.specs.LibertyGrammar.{level_after, sign_of}
 use Rattle.library_model.specs.LibertyStatements as grammar
 use Rattle.library_model.specs.LibertyStatements.{Statement, begins, cut, parentheses_after, place_after}
 use Rattle.library_model.specs.LibertyTokens as liberty
-use Rattle.lib_cells.specs.declared.statements.Place.{Place}
-use Rattle.lib_cells.specs.declared.statements.Start.{Start}
-use Rattle.lib_cells.specs.declared.tokens.Token.{Token}
+use Rattle.lib_cells.specs.declared.syntax.statements.Place.{Place}
+use Rattle.lib_cells.specs.declared.syntax.statements.Start.{Start}
+use Rattle.lib_cells.specs.declared.scanning.tokens.Token.{Token}
 use Rattle.lib_cells.specs.Seen.{token_seen, tokens_seen}
 use Rattle.lib_cells.specs.Starts.{Begins, IsFew, IsStart, place_seen}
 

@@ -4,9 +4,9 @@ use Rattle.std.proofs.lemmas.List.{append-nil, drop_all, map_push}
 use Rattle.library_model.specs.LibertyStatements as grammar
 use Rattle.library_model.specs.LibertyStatements.{begins, cut, first_place, place_after, statements_of}
 use Rattle.library_model.specs.LibertyTokens as liberty
-use Rattle.lib_cells.specs.declared.statements.Start.{Start}
-use Rattle.lib_cells.specs.declared.statements.Statement.{Statement}
-use Rattle.lib_cells.specs.declared.tokens.Token.{Token}
+use Rattle.lib_cells.specs.declared.syntax.statements.Start.{Start}
+use Rattle.lib_cells.specs.declared.syntax.statements.Statement.{Statement}
+use Rattle.lib_cells.specs.declared.scanning.tokens.Token.{Token}
 use Rattle.lib_cells.specs.Seen.{statement_seen, statements_seen, token_seen, tokens_seen}
 use Rattle.lib_cells.specs.Starts.{Begins, IsFew, IsStart, place_seen}
 use Rattle.lib_cells.proofs.StartFacts.{cut_begins, drop_seen}

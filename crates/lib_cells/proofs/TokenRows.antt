@@ -4,10 +4,10 @@ use Rattle.std.proofs.lemmas.List.{append-nil, map_push}
 use Rattle.library_model.specs.LibertyTokens as grammar
 use Rattle.library_model.specs.LibertyTokens.{AreTokens, Character, Ending, at_end, in_quotes}
 use Rattle.lib_cells.specs.Characters.{Shows}
-use Rattle.lib_cells.specs.declared.lexing.Lexed.{Lexed}
-use Rattle.lib_cells.specs.declared.lexing.Step.TheVariants.{End, Found, InQuotes}
-use Rattle.lib_cells.specs.declared.rest.Rest.{Rest}
-use Rattle.lib_cells.specs.declared.tokens.Token.{Token}
+use Rattle.lib_cells.specs.declared.scanning.lexing.Lexed.{Lexed}
+use Rattle.lib_cells.specs.declared.scanning.lexing.Step.TheVariants.{End, Found, InQuotes}
+use Rattle.lib_cells.specs.declared.scanning.rest.Rest.{Rest}
+use Rattle.lib_cells.specs.declared.scanning.tokens.Token.{Token}
 use Rattle.lib_cells.specs.Lexing.{AreLexed, TokenAt}
 use Rattle.lib_cells.specs.Seen.{token_seen, tokens_seen}
 

@@ -5,7 +5,7 @@ use Rattle.library_model.specs.LibertyCells.{NamedPin, input_places, is_left_out
 use Rattle.library_model.specs.LibertyStatements.{Member}
 use Rattle.lib_cells.specs.FunctionNames.{names_of}
 use Rattle.bool_lanes.specs.NamedNumbers.{HasPlaces}
-use Rattle.lib_cells.specs.declared.cell_names.CellNames.{CellNames}
+use Rattle.lib_cells.specs.declared.cell.cell_names.CellNames.{CellNames}
 
 -- what is known is that of these pins and state variables
 pub record HasNames (known : CellNames) (ps : List NamedPin) (states : List (List ℕ)) : Type 0 where

@@ -2,7 +2,7 @@
 -- The characters are those of the definitions (`characters`), here as their bytes and their lines.
 use Rattle.std.specs.Prelude.{◌≡◌, ◌++◌, ℕ, List, [], ◌∷◌, map, Option, Some, None}
 use Rattle.library_model.specs.LibertyTokens.{Character, bytes_of, characters, plain, shown, within_at_end, within_after}
-use Rattle.lib_cells.specs.declared.characters.Characters.{Characters}
+use Rattle.lib_cells.specs.declared.scanning.characters.Characters.{Characters}
 use Rattle.lib_cells.specs.Seen.{within_seen}
 
 abbrev pub as_list : Option ℕ → List ℕ

@@ -6,9 +6,9 @@ use Rattle.library_model.specs.LibertyTokens as grammar
 use Rattle.library_model.specs.LibertyTokens.{AreTokens, Character, Ending, at_end, front_after, in_quotes, is_unfinished, last_token, quoted_front, token_front}
 use Rattle.text_model.specs.Row.{Front, found, stops}
 use Rattle.lib_cells.specs.Characters.{Shows}
-use Rattle.lib_cells.specs.declared.lexing.Lexed.{Lexed}
-use Rattle.lib_cells.specs.declared.lexing.Step.{Step}
-use Rattle.lib_cells.specs.declared.lexing.Step.TheVariants.{End, Found, InQuotes}
+use Rattle.lib_cells.specs.declared.scanning.lexing.Lexed.{Lexed}
+use Rattle.lib_cells.specs.declared.scanning.lexing.Step.{Step}
+use Rattle.lib_cells.specs.declared.scanning.lexing.Step.TheVariants.{End, Found, InQuotes}
 use Rattle.lib_cells.specs.Seen.{token_seen, tokens_seen}
 
 -- a step is what stands at the front of characters

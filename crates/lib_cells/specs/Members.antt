@@ -2,7 +2,7 @@
 use Rattle.std.specs.Prelude.{List, map}
 use Rattle.library_model.specs.LibertyStatements as liberty
 use Rattle.lib_cells.specs.Seen.{statement_seen, statements_seen}
-use Rattle.lib_cells.specs.declared.members.Member.{Member}
+use Rattle.lib_cells.specs.declared.syntax.members.Member.{Member}
 
 abbrev pub member_seen : Member → liberty.Member
 member_seen m = record { statement = statement_seen m.statement.now; inside = statements_seen m.inside.now }

@@ -5,7 +5,7 @@ use Rattle.pin_types.specs.declared.library_cells.Direction.{Direction}
 use Rattle.library_model.specs.LibertyCells.{NamedPin, direction_named, has_state, is_bus, named_pin}
 use Rattle.library_model.specs.LibertyStatements.{Member, arguments, last_value, members}
 use Rattle.lib_cells.specs.Seen.{statement_seen}
-use Rattle.lib_cells.specs.declared.members.Member.{Member as Held}
+use Rattle.lib_cells.specs.declared.syntax.members.Member.{Member as Held}
 
 -- the state variables of a group, if it has any
 abbrev pub states_in : Member → List (List ℕ)

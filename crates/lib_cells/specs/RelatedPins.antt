@@ -9,8 +9,8 @@ use Rattle.library_model.specs.LibertyTiming.{Timing, timing_named}
 use Rattle.bool_lanes.specs.NamedNumbers.{number_at}
 use Rattle.lib_cells.specs.Timings.{timing_seen}
 use Rattle.bool_lanes.specs.declared.numbers.Numbers.{Numbers}
-use Rattle.lib_cells.specs.declared.related.Related.{Related}
-use Rattle.lib_cells.specs.declared.related.TimingSaid.{TimingSaid}
+use Rattle.lib_cells.specs.declared.cell.related.Related.{Related}
+use Rattle.lib_cells.specs.declared.cell.related.TimingSaid.{TimingSaid}
 
 abbrev pub related_seen : Related → liberty.Related
 related_seen r = record { from = r.from; to = r.to; timing = timing_seen r.timing; sense = r.sense }

@@ -3,12 +3,12 @@
 use Rattle.std.specs.Prelude.{List, map}
 use Rattle.library_model.specs.LibertyStatements.{Statement}
 use Rattle.library_model.specs.LibertyTokens as grammar
-use Rattle.lib_cells.specs.declared.characters.Within.{Within}
-use Rattle.lib_cells.specs.declared.characters.Within.TheVariants.{Plain, Quotes, CommentStart, Comment, CommentStar, Continued, ContinuedQuotes}
-use Rattle.lib_cells.specs.declared.statements.Statement.{Statement as Held}
-use Rattle.lib_cells.specs.declared.tokens.Form.{Form}
-use Rattle.lib_cells.specs.declared.tokens.Form.TheVariants.{Bare, Quoted, Sign}
-use Rattle.lib_cells.specs.declared.tokens.Token.{Token}
+use Rattle.lib_cells.specs.declared.scanning.characters.Within.{Within}
+use Rattle.lib_cells.specs.declared.scanning.characters.Within.TheVariants.{Plain, Quotes, CommentStart, Comment, CommentStar, Continued, ContinuedQuotes}
+use Rattle.lib_cells.specs.declared.syntax.statements.Statement.{Statement as Held}
+use Rattle.lib_cells.specs.declared.scanning.tokens.Form.{Form}
+use Rattle.lib_cells.specs.declared.scanning.tokens.Form.TheVariants.{Bare, Quoted, Sign}
+use Rattle.lib_cells.specs.declared.scanning.tokens.Token.{Token}
 
 abbrev pub within_seen : Within → grammar.Within
 within_seen Plain = grammar.plain

@@ -4,8 +4,8 @@ use Rattle.std.specs.Prelude.{◌==◌, ◌||◌, ℕ, Bool, not, List, nat_lt}
 use Rattle.std.specs.List.{prefix_len}
 use Rattle.library_model.specs.LibertyGrammar.{sign_of}
 use Rattle.lib_cells.specs.Seen.{token_seen}
-use Rattle.lib_cells.specs.declared.statements.Statement.{Statement}
-use Rattle.lib_cells.specs.declared.tokens.Token.{Token}
+use Rattle.lib_cells.specs.declared.syntax.statements.Statement.{Statement}
+use Rattle.lib_cells.specs.declared.scanning.tokens.Token.{Token}
 
 -- the number of statements at the front that stand deeper than a level
 abbrev pub deeper_len : ℕ → List Statement → ℕ

@@ -4,9 +4,9 @@ use Rattle.std.specs.Prelude.{◌≡◌, ◌≤◌, ◌-◌, ℕ, true, List, []
 use Rattle.library_model.specs.LibertyStatements as grammar
 use Rattle.library_model.specs.LibertyStatements.{begins, cut}
 use Rattle.library_model.specs.LibertyTokens as liberty
-use Rattle.lib_cells.specs.declared.statements.Place.{Place}
-use Rattle.lib_cells.specs.declared.statements.Start.{Start}
-use Rattle.lib_cells.specs.declared.tokens.Token.{Token}
+use Rattle.lib_cells.specs.declared.syntax.statements.Place.{Place}
+use Rattle.lib_cells.specs.declared.syntax.statements.Start.{Start}
+use Rattle.lib_cells.specs.declared.scanning.tokens.Token.{Token}
 use Rattle.lib_cells.specs.Seen.{tokens_seen}
 
 abbrev pub place_seen : Place → grammar.Place

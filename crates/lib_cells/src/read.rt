@@ -8,12 +8,12 @@ ghost use Rattle.library_model.specs.LibertyTokens.{IsLexed, is_in_comment};
 ghost use Rattle.lib_cells.specs.Reading.{ReadsText};
 ghost use Rattle.lib_cells.specs.Seen.{tokens_seen, within_seen};
 
-use crate::characters::{Characters, read_characters};
-use crate::lexing::{Lexed, lex};
-use crate::libraries::library_if;
-use crate::recognition::broken_line;
-use crate::statements::statements;
-use crate::tokens::Token;
+use crate::library::libraries::library_if;
+use crate::scanning::characters::{Characters, read_characters};
+use crate::scanning::lexing::{Lexed, lex};
+use crate::scanning::tokens::Token;
+use crate::syntax::recognition::broken_line;
+use crate::syntax::statements::statements;
 use sdc_base::{At, Stop};
 use source_types::{LibKind, Library};
 use std::alloc::Global;

@@ -4,7 +4,7 @@ use Rattle.std.specs.Option.{option_map}
 use Rattle.source_types.specs.declared.built_ins.Branch.{Branch}
 use Rattle.source_types.specs.declared.built_ins.Branches.{Branches}
 use Rattle.tcl_model.specs.Branches as spec
-use Rattle.tcl_eval.specs.declared.branches.Expects.TheVariants as expects
+use Rattle.tcl_eval.specs.declared.commands.branches.Expects.TheVariants as expects
 use Rattle.tcl_eval.specs.BranchesRead.{Steps, in_front, said_after}
 
 pub nothing_read : (o : Option Branches) → option_map (in_front []) o ≡ o

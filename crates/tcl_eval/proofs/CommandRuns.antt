@@ -14,16 +14,16 @@ use Rattle.tcl_model.specs.Commands.{Place, StandsCommand}
 use Rattle.tcl_model.specs.ExpressionRun.{RunStep}
 use Rattle.tcl_model.specs.HostCalls.{Host, World}
 use Rattle.text_model.specs.Row.{found, stops}
-use Rattle.tcl_model.specs.ScriptRun.{Enters, Runs, RunsCommand, RunsCommands, RunsWithin, Contents, outermost, told_at}
+use Rattle.tcl_model.specs.ScriptRun.{Enters, Runs, RunsCommand, RunsCommands, RunsWithin, Outcome, outermost, told_at}
 use Rattle.tcl_model.specs.WordValues.{Level, in_body}
-use Rattle.tcl_eval.specs.declared.progress.Level as progress
-use Rattle.tcl_eval.specs.declared.progress.Progress.{Progress}
+use Rattle.tcl_eval.specs.declared.running.progress.Level as progress
+use Rattle.tcl_eval.specs.declared.running.progress.Progress.{Progress}
 use Rattle.tcl_eval.specs.ScriptReads.{CommandOutside, CommandWithin, RunsOutside, beginning}
 use Rattle.tcl_eval.specs.Worlds.{Does, level_of, outside_answer, world}
 
 -- whatever is told after a place, is told from the beginning on
 abbrev pub RunsOn : {State : Type 0} → (Command → RunStep (World State) Value) → Place → Value → World State → Place → Value → World State → Type 0
-RunsOn {State = S} Step first none start place last now = (commands : List Command) (told : Contents) (after : World S)
+RunsOn {State = S} Step first none start place last now = (commands : List Command) (told : Outcome) (after : World S)
     → RunsCommands Step commands place last now told after → (all : List Command) × RunsCommands Step all first none start told after
 
 pub begun : {State : Type 0} (Step : Command → RunStep (World State) Value) (place : Place) (last : Value) (now : World State) → RunsOn Step place last now place last now

@@ -7,8 +7,8 @@ use Rattle.source_types.specs.declared.expressions.ExpressionStep.TheVariants as
 use Rattle.source_types.specs.declared.expressions.ExpressionToken.{ExpressionToken}
 use Rattle.source_types.specs.declared.expressions.ExpressionToken.TheVariants as token
 use Rattle.source_types.specs.declared.expressions.UnaryOperator.{UnaryOperator}
-use Rattle.tcl_eval.specs.declared.waiting.Waiting.{Waiting}
-use Rattle.tcl_eval.specs.declared.waiting.Waiting.TheVariants as waiting
+use Rattle.tcl_eval.specs.declared.expressions.waiting.Waiting.{Waiting}
+use Rattle.tcl_eval.specs.declared.expressions.waiting.Waiting.TheVariants as waiting
 use Rattle.tcl_model.specs.ExpressionForm.{IsGrouped, Tree, binary, binding, spelling, tightness, unary, unary_binding, unary_token}
 use Rattle.tcl_eval.specs.ExpressionReading.{settled}
 use Rattle.tcl_eval.proofs.ReadTrees.{Accepts, binding_low}

@@ -24,7 +24,7 @@ use Rattle.tcl_model.specs.ExpressionRun.{Evaluates, GoesOn, RunsExpression, Run
 use Rattle.tcl_model.specs.ExpressionValue.{decided}
 use Rattle.tcl_model.specs.HostCalls.{Answered, AsText, Calls, Host, SetsTo, World, text_in}
 use Rattle.tcl_model.specs.NamedCommands.{Chooses, EvaluatesText, Holds, ReadsWord, Repeats, RunsEach, RunsFirst, RunsNamed, RunsOtherwise, RunsValues, Sets, named, spaced}
-use Rattle.tcl_model.specs.ScriptRun.{Enters, GoesOnAfter, Runs, RunsBracket, RunsCommand, RunsCommands, RunsOpened, RunsText, RunsWithin, Contents, most_levels, one_more, outermost}
+use Rattle.tcl_model.specs.ScriptRun.{Enters, GoesOnAfter, Runs, RunsBracket, RunsCommand, RunsCommands, RunsOpened, RunsText, RunsWithin, Outcome, most_levels, one_more, outermost}
 use Rattle.tcl_model.specs.RunSteps.{Answers, Chosen, Looks, OnWith, Then}
 use Rattle.tcl_model.specs.WordValues.{Level, Opened, RunsJoined, RunsPart, RunsParts, RunsWord, RunsWords, in_body, in_bracket}
 
@@ -201,15 +201,15 @@ command_keep K level l one before given after (inr t) k = stays K before after t
 
 -- ---- texts
 
-after_keep : {S : Type 0} (K : S → Type 0) (Next : Value → World S → Contents → World S → Type 0)
-    → ((last : Value) (before : World S) (told : Contents) (after : World S) → Next last before told after → K before.host → K after.host)
-    → (one : Command) (others : List Command) (outcome : Result Value Kind) (between : World S) (told : Contents) (after : World S)
+after_keep : {S : Type 0} (K : S → Type 0) (Next : Value → World S → Outcome → World S → Type 0)
+    → ((last : Value) (before : World S) (told : Outcome) (after : World S) → Next last before told after → K before.host → K after.host)
+    → (one : Command) (others : List Command) (outcome : Result Value Kind) (between : World S) (told : Outcome) (after : World S)
     → GoesOnAfter Next one others outcome between told after → K between.host → K after.host
 after_keep K Next n one others (Ok last) between told after t k = n last between told after t k
 after_keep K Next n one others (Err kind) between told after t k = stays K between after t.2 k
 
 commands_keep : {S : Type 0} (K : S → Type 0) (Does : Command → RunStep (World S) Value) → ((one : Command) → Keeps K (Does one))
-    → (commands : List Command) (place : Place) (last : Value) (before : World S) (told : Contents) (after : World S)
+    → (commands : List Command) (place : Place) (last : Value) (before : World S) (told : Outcome) (after : World S)
     → RunsCommands Does commands place last before told after → K before.host → K after.host
 commands_keep K Does d [] place last before told after t k = stays K before after t.3 k
 commands_keep K Does d (one ∷ commands) place last before told after t k =
@@ -217,7 +217,7 @@ commands_keep K Does d (one ∷ commands) place last before told after t k =
     (d one before t.2.0 t.2.1 t.2.2 k)
 
 text_run_keep : {S : Type 0} (K : S → Type 0) (Does : Command → RunStep (World S) Value) → ((one : Command) → Keeps K (Does one))
-    → (text : List ℕ) (before : World S) (told : Contents) (after : World S) → RunsText Does text before told after → K before.host → K after.host
+    → (text : List ℕ) (before : World S) (told : Outcome) (after : World S) → RunsText Does text before told after → K before.host → K after.host
 text_run_keep K Does d text before told after t k = commands_keep K Does d t.0 (record { text = text; line = 1 }) (value.Text []) before told after t.1 k
 
 -- ---- levels

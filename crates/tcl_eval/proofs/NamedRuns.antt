@@ -19,7 +19,7 @@ use Rattle.tcl_model.specs.ScriptRun.{RunsCommand, one_more}
 use Rattle.tcl_model.specs.RunSteps.{Looks, Then, tcl_outcome}
 use Rattle.tcl_model.specs.Variables.{Variable, with_variable}
 use Rattle.tcl_model.specs.WordValues.{Level, RunsWords, in_body}
-use Rattle.tcl_eval.specs.declared.progress.Progress.{Progress}
+use Rattle.tcl_eval.specs.declared.running.progress.Progress.{Progress}
 use Rattle.tcl_eval.specs.Worlds.{Begins, Does, as_answer, world}
 use Rattle.tcl_eval.proofs.RunStepFacts.{answer_ok, looked, then_ok, then_stop}
 

@@ -19,7 +19,7 @@ use Rattle.tcl_model.specs.ExpressionRun.{RunStep}
 use Rattle.tcl_model.specs.HostCalls.{Host, SetsTo, World, text_in}
 use Rattle.tcl_model.specs.NamedCommands.{Chooses, Holds, Repeats, RunsEach, RunsFirst, RunsNamed, RunsOtherwise, RunsValues, Sets, named, spaced}
 use Rattle.text_model.specs.Row.{found, stops}
-use Rattle.tcl_model.specs.ScriptRun.{Enters, GoesOnAfter, RunsBracket, RunsCommand, RunsCommands, RunsOpened, RunsText, RunsWithin, Contents, most_commands, most_levels, one_more, outermost, told_end, without_line, without_value}
+use Rattle.tcl_model.specs.ScriptRun.{Enters, GoesOnAfter, RunsBracket, RunsCommand, RunsCommands, RunsOpened, RunsText, RunsWithin, Outcome, most_commands, most_levels, one_more, outermost, told_end, without_line, without_value}
 use Rattle.tcl_model.specs.WordValues.{Level, Opened, in_body, in_bracket}
 use Rattle.text_model.proofs.RowFacts.{not_both, same_end, same_place, same_thing}
 use Rattle.tcl_words.proofs.OneOutcome.{commands_once}
@@ -102,22 +102,22 @@ command_one level l this before a b x y (inr t) (inr u) = both t.1.0 t.1.1 u.1.0
 -- ---- texts
 
 -- a text is told one outcome and leaves one world
-abbrev IsToldOne : {S : Type 0} → (World S → Contents → World S → Type 0) → Type 0
-IsToldOne {S = S} Tells = (before : World S) (a b : Contents) (x y : World S) → Tells before a x → Tells before b y → (a ≡ b) × (x ≡ y)
+abbrev IsToldOne : {S : Type 0} → (World S → Outcome → World S → Type 0) → Type 0
+IsToldOne {S = S} Tells = (before : World S) (a b : Outcome) (x y : World S) → Tells before a x → Tells before b y → (a ≡ b) × (x ≡ y)
 
 end_same : (place : Place) (e f : Option (At TclKind)) → StandsCommand place (stops e) → StandsCommand place (stops f) → e ≡ f
 end_same place e f p q = same_end e f (commands_once place (stops e) (stops f) p q)
 
 -- after a command with an outcome: either both go on or both end
-after_one : {S : Type 0} (This Other : Value → World S → Contents → World S → Type 0) (this : Command) (xs ys : List Command)
-    → ((last : Value) (before : World S) (a b : Contents) (x y : World S) → This last before a x → Other last before b y → (a ≡ b) × (x ≡ y))
-    → (outcome : Result Value Kind) (between : World S) (a b : Contents) (x y : World S)
+after_one : {S : Type 0} (This Other : Value → World S → Outcome → World S → Type 0) (this : Command) (xs ys : List Command)
+    → ((last : Value) (before : World S) (a b : Outcome) (x y : World S) → This last before a x → Other last before b y → (a ≡ b) × (x ≡ y))
+    → (outcome : Result Value Kind) (between : World S) (a b : Outcome) (x y : World S)
     → GoesOnAfter This this xs outcome between a x → GoesOnAfter Other this ys outcome between b y → (a ≡ b) × (x ≡ y)
 after_one This Other this xs ys n (Ok last) between a b x y t u = n last between a b x y t u
 after_one This Other this xs ys n (Err kind) between a b x y t u = both t.1 t.2 u.1 u.2
 
 commands_one : {S : Type 0} (Does : Command → RunStep (World S) Value) → ((this : Command) → IsOne (Does this))
-    → (xs ys : List Command) (place : Place) (last : Value) (before : World S) (a b : Contents) (x y : World S)
+    → (xs ys : List Command) (place : Place) (last : Value) (before : World S) (a b : Outcome) (x y : World S)
     → RunsCommands Does xs place last before a x → RunsCommands Does ys place last before b y → (a ≡ b) × (x ≡ y)
 commands_one Does d [] [] place last before a b x y t u =
     (t.2 ∙ ap (told_end last) (end_same place t.0 u.0 t.1 u.1) ∙ sym u.2, t.3 ∙ sym u.3)
@@ -131,8 +131,8 @@ commands_one {S = S} Does d (p ∷ xs) (q ∷ ys) place last before a b x y t u 
     let next : t.0 ≡ u.0 = same_place p q t.0 u.0 front in
     let other : Does p before u.2.0 u.2.1 = subst (λ (c : Command). Does c before u.2.0 u.2.1) (sym same) u.2.2 in
     let done = d p before t.2.0 u.2.0 t.2.1 u.2.1 t.2.2 other in
-    let One : Value → World S → Contents → World S → Type 0 = RunsCommands Does xs t.0 in
-    let Two : Value → World S → Contents → World S → Type 0 = RunsCommands Does ys t.0 in
+    let One : Value → World S → Outcome → World S → Type 0 = RunsCommands Does xs t.0 in
+    let Two : Value → World S → Outcome → World S → Type 0 = RunsCommands Does ys t.0 in
     let placed : GoesOnAfter Two q ys u.2.0 u.2.1 b y = subst (λ (n : Place). GoesOnAfter (RunsCommands Does ys n) q ys u.2.0 u.2.1 b y) (sym next) u.2.3 in
     let named : GoesOnAfter Two p ys u.2.0 u.2.1 b y = subst (λ (c : Command). GoesOnAfter Two c ys u.2.0 u.2.1 b y) (sym same) placed in
     let here : GoesOnAfter Two p ys t.2.0 u.2.1 b y = subst (λ (o : Result Value Kind). GoesOnAfter Two p ys o u.2.1 b y) (sym done.0) named in

@@ -8,8 +8,8 @@ use Rattle.source_types.specs.declared.expressions.ExpressionToken.TheVariants a
 use Rattle.source_types.specs.declared.expressions.UnaryOperator.{UnaryOperator}
 use Rattle.source_types.specs.declared.expressions.UnaryOperator.TheVariants.{Minus, Not, Plus}
 use Rattle.tcl_model.specs.ExpressionForm.{IsGrouped, Tree, binary, binding, number, parentheses, spelling, tightness, unary, unary_binding, unary_token, word}
-use Rattle.tcl_eval.specs.declared.waiting.Waiting.{Waiting}
-use Rattle.tcl_eval.specs.declared.waiting.Waiting.TheVariants as waiting
+use Rattle.tcl_eval.specs.declared.expressions.waiting.Waiting.{Waiting}
+use Rattle.tcl_eval.specs.declared.expressions.waiting.Waiting.TheVariants as waiting
 use Rattle.tcl_eval.specs.ExpressionReading.{is_done, sign_of}
 use Rattle.tcl_eval.proofs.ReadTrees.{Accepts, accepts_more, binding_low, is_done_at, not_done}
 

@@ -16,8 +16,8 @@ use Rattle.tcl_model.specs.ExpressionSteps.{ParsesTo, kept}
 use Rattle.tcl_model.specs.ExpressionTokens.{AreTokens, Halt, StandsToken, TokenFront, all_read, malformed}
 use Rattle.text_model.specs.Row.{found, stops}
 use Rattle.text_model.proofs.RowFacts.{not_both, same_place, same_thing}
-use Rattle.tcl_eval.specs.declared.lexed.Lexed.{Lexed}
-use Rattle.tcl_eval.specs.declared.reading.Reading as code
+use Rattle.tcl_eval.specs.declared.expressions.lexed.Lexed.{Lexed}
+use Rattle.tcl_eval.specs.declared.expressions.reading.Reading as code
 use Rattle.tcl_eval.specs.ExpressionReading.{Reading, ended, nothing_read, parsed, step, steps_on}
 use Rattle.tcl_eval.specs.Lexing.{TokenFrom}
 use Rattle.tcl_eval.specs.Readings.{seen}

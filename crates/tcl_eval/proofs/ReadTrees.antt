@@ -11,8 +11,8 @@ use Rattle.source_types.specs.declared.expressions.ExpressionToken.{ExpressionTo
 use Rattle.source_types.specs.declared.expressions.ExpressionToken.TheVariants as token
 use Rattle.source_types.specs.declared.expressions.UnaryOperator.{UnaryOperator}
 use Rattle.source_types.specs.declared.expressions.UnaryOperator.TheVariants.{Minus, Not, Plus}
-use Rattle.tcl_eval.specs.declared.waiting.Waiting.{Waiting}
-use Rattle.tcl_eval.specs.declared.waiting.Waiting.TheVariants as waiting
+use Rattle.tcl_eval.specs.declared.expressions.waiting.Waiting.{Waiting}
+use Rattle.tcl_eval.specs.declared.expressions.waiting.Waiting.TheVariants as waiting
 use Rattle.tcl_model.specs.ExpressionForm.{IsGrouped, Tree, binary, binding, levels_of, number, parentheses, spelling, tightness, unary, unary_binding, unary_token, word}
 use Rattle.tcl_eval.specs.ExpressionReading.{Settled, closed, ended, nothing_read, parsed, reading, settled, step, steps_on, whole}
 use Rattle.tcl_model.specs.ExpressionSteps.{decision, kept, steps_of}

@@ -19,7 +19,7 @@ use Rattle.tcl_words.specs.Spans.{Keeps, LeadsTo}
 use Rattle.tcl_words.proofs.OneOutcome.{pieces_once}
 use Rattle.tcl_words.proofs.Refusals.{IsRefused, meets_refusal}
 use Rattle.tcl_words.proofs.RunFacts.{drop_all, keeps_one}
-use Rattle.tcl_eval.specs.declared.lexed.Lexed.{Lexed}
+use Rattle.tcl_eval.specs.declared.expressions.lexed.Lexed.{Lexed}
 use Rattle.tcl_eval.specs.Lexing.{LexedAt, TokenFrom, word_token}
 
 -- ---- blanks before a token

@@ -12,8 +12,8 @@ use Rattle.source_types.specs.declared.expressions.ExpressionToken.{ExpressionTo
 use Rattle.source_types.specs.declared.expressions.ExpressionToken.TheVariants as token
 use Rattle.source_types.specs.declared.expressions.UnaryOperator.{UnaryOperator}
 use Rattle.source_types.specs.declared.expressions.UnaryOperator.TheVariants.{Minus, Not, Plus}
-use Rattle.tcl_eval.specs.declared.waiting.Waiting.{Waiting}
-use Rattle.tcl_eval.specs.declared.waiting.Waiting.TheVariants as waiting
+use Rattle.tcl_eval.specs.declared.expressions.waiting.Waiting.{Waiting}
+use Rattle.tcl_eval.specs.declared.expressions.waiting.Waiting.TheVariants as waiting
 use Rattle.tcl_model.specs.ExpressionForm.{IsGrouped, Tree, binding, number, parentheses, spelling, tightness, unary_binding, unary_token, word}
 use Rattle.tcl_eval.specs.ExpressionReading.{Reading, closed, ended, nothing_read, parsed, reading, settled, sign_of, step, steps_on, whole, with_binary, with_close, with_open, with_operand, with_operator, with_unary}
 use Rattle.tcl_eval.proofs.Frames.{AreFrames, Frame, Reduced, accepts_tight, left, of_three, opened, prefix, reduced, spelled, waits_of}

@@ -5,8 +5,8 @@ use Rattle.std.specs.Option.{option_map}
 use Rattle.source_types.specs.declared.built_ins.Branch.{Branch}
 use Rattle.source_types.specs.declared.built_ins.Branches.{Branches}
 use Rattle.tcl_model.specs.Branches as spec
-use Rattle.tcl_eval.specs.declared.branches.Expects.{Expects}
-use Rattle.tcl_eval.specs.declared.branches.Expects.TheVariants as expects
+use Rattle.tcl_eval.specs.declared.commands.branches.Expects.{Expects}
+use Rattle.tcl_eval.specs.declared.commands.branches.Expects.TheVariants as expects
 
 -- branches before others
 abbrev pub in_front : List Branch → Branches → Branches

@@ -11,8 +11,8 @@ use Rattle.source_types.specs.declared.expressions.ExpressionToken.{ExpressionTo
 use Rattle.source_types.specs.declared.expressions.ExpressionToken.TheVariants as token
 use Rattle.source_types.specs.declared.expressions.UnaryOperator.{UnaryOperator}
 use Rattle.source_types.specs.declared.expressions.UnaryOperator.TheVariants.{Minus, Not, Plus}
-use Rattle.tcl_eval.specs.declared.waiting.Waiting.{Waiting}
-use Rattle.tcl_eval.specs.declared.waiting.Waiting.TheVariants as waiting
+use Rattle.tcl_eval.specs.declared.expressions.waiting.Waiting.{Waiting}
+use Rattle.tcl_eval.specs.declared.expressions.waiting.Waiting.TheVariants as waiting
 use Rattle.tcl_model.specs.ExpressionForm.{binding}
 use Rattle.tcl_model.specs.ExpressionSteps.{decision}
 

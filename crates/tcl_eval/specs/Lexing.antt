@@ -11,7 +11,7 @@ use Rattle.tcl_model.specs.ExpressionTokens.{StandsToken, TokenFront, all_read, 
 use Rattle.text_model.specs.Row.{found, stops}
 use Rattle.tcl_words.specs.declared.spelled.Spelled.{Spelled}
 use Rattle.tcl_words.specs.Spans.{Keeps}
-use Rattle.tcl_eval.specs.declared.lexed.Lexed.{Lexed}
+use Rattle.tcl_eval.specs.declared.expressions.lexed.Lexed.{Lexed}
 
 -- the token that was found at a place is what the grammar has in front, or it has none
 abbrev pub LexedAt : (TokenFront → Type 0) → List ℕ → ℕ → Result Lexed TclKind → Type 0

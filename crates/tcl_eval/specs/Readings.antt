@@ -2,8 +2,8 @@
 -- The code keeps the last of what waits at the end.
 use Rattle.std.specs.Prelude.{◌≡◌, ◌<◌, ◌++◌, ℕ, true, false, List, [], ◌∷◌, length, reverse, Option, Some, None}
 use Rattle.source_types.specs.declared.expressions.ExpressionStep.{ExpressionStep}
-use Rattle.tcl_eval.specs.declared.reading.Reading.{Reading}
-use Rattle.tcl_eval.specs.declared.waiting.Waiting.{Waiting}
+use Rattle.tcl_eval.specs.declared.expressions.reading.Reading.{Reading}
+use Rattle.tcl_eval.specs.declared.expressions.waiting.Waiting.{Waiting}
 use Rattle.tcl_eval.specs.ExpressionReading as spec
 use Rattle.tcl_eval.specs.ExpressionReading.{done, is_done, settled}
 

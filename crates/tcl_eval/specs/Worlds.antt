@@ -15,8 +15,8 @@ use Rattle.tcl_model.specs.ExpressionRun.{RunStep}
 use Rattle.tcl_model.specs.HostCalls.{Host, World}
 use Rattle.tcl_model.specs.ScriptRun.{Enters, most_commands}
 use Rattle.tcl_model.specs.WordValues as values
-use Rattle.tcl_eval.specs.declared.progress.Level.{Level}
-use Rattle.tcl_eval.specs.declared.progress.Progress.{Progress}
+use Rattle.tcl_eval.specs.declared.running.progress.Level.{Level}
+use Rattle.tcl_eval.specs.declared.running.progress.Progress.{Progress}
 
 -- the world of a run
 abbrev pub world : {State : Type 0} → Progress → State → World State

@@ -3,7 +3,7 @@
 mod steps;
 mod values;
 
-use crate::parsing::parse_expression;
+use crate::expressions::parsing::parse_expression;
 use sdc_base::{Fixed, NoMemory, NumberError, Stop};
 use source_types::{Expression, ExpressionStep, Part, Word};
 use std::alloc::Global;

@@ -40,25 +40,25 @@ RunsCommand level command before given after =
 -- ---- commands, one after the other
 
 -- what commands give: the value of the last one, or the first fault with its line
-abbrev pub Contents : Type 0
-Contents = Result Value (At Kind)
+abbrev pub Outcome : Type 0
+Outcome = Result Value (At Kind)
 
-abbrev pub told_at : ℕ → Kind → Contents
+abbrev pub told_at : ℕ → Kind → Outcome
 told_at line kind = Err (record { line = line; kind = kind })
 
 -- where no more command stands: the last value, or why the text does not go on
-abbrev pub told_end : Value → Option (At TclKind) → Contents
+abbrev pub told_end : Value → Option (At TclKind) → Outcome
 told_end last None = Ok last
 told_end last (Some fault) = told_at fault.line (Tcl fault.kind)
 
 -- on after a command with its value, where it has one
-abbrev pub GoesOnAfter : {State : Type 0} → (Value → World State → Contents → World State → Type 0) → Command → List Command → Result Value Kind → World State → Contents → World State → Type 0
+abbrev pub GoesOnAfter : {State : Type 0} → (Value → World State → Outcome → World State → Type 0) → Command → List Command → Result Value Kind → World State → Outcome → World State → Type 0
 GoesOnAfter Next command commands (Ok last) between told after = Next last between told after
 GoesOnAfter Next command commands (Err kind) between told after =
     (commands ≡ []) × (told ≡ told_at command.line kind) × (after ≡ between)
 
 -- these commands stand at a place, one after the other, and are begun in order. The value is the last one so far
-abbrev pub RunsCommands : {State : Type 0} → (Command → RunStep (World State) Value) → List Command → Place → Value → World State → Contents → World State → Type 0
+abbrev pub RunsCommands : {State : Type 0} → (Command → RunStep (World State) Value) → List Command → Place → Value → World State → Outcome → World State → Type 0
 RunsCommands Does [] place last before told after =
     (end : Option (At TclKind)) × StandsCommand place (stops end) × (told ≡ told_end last end) × (after ≡ before)
 RunsCommands {State = S} Does (command ∷ commands) place last before told after =
@@ -67,7 +67,7 @@ RunsCommands {State = S} Does (command ∷ commands) place last before told afte
     × GoesOnAfter (RunsCommands Does commands next) command commands outcome between told after)
 
 -- a whole text, its lines counted from 1; without commands it gives the empty text
-abbrev pub RunsText : {State : Type 0} → (Command → RunStep (World State) Value) → List ℕ → World State → Contents → World State → Type 0
+abbrev pub RunsText : {State : Type 0} → (Command → RunStep (World State) Value) → List ℕ → World State → Outcome → World State → Type 0
 RunsText Does text before told after =
     (commands : List Command) × RunsCommands Does commands (record { text = text; line = 1 }) (value.Text []) before told after
 
@@ -78,14 +78,14 @@ abbrev pub most_levels : ℕ
 most_levels = 100
 
 -- what is told within a level, without its line: the line is the outermost command's
-abbrev pub without_line : Contents → Result Value Kind
+abbrev pub without_line : Outcome → Result Value Kind
 without_line (Ok last) = Ok last
 without_line (Err fault) = Err fault.kind
 
 -- a script within a level
 abbrev pub RunsWithin : {State : Type 0} → Level State → List ℕ → RunStep (World State) Value
 RunsWithin level script before given after =
-    (told : Contents) × RunsText (RunsCommand level) script before told after × (given ≡ without_line told)
+    (told : Outcome) × RunsText (RunsCommand level) script before told after × (given ≡ without_line told)
 
 -- a bracket, whose level is open already: an index stands for itself in its brackets, and is no command
 abbrev pub RunsBracket : {State : Type 0} → Level State → List ℕ → Bool → RunStep (World State) Value
@@ -111,18 +111,18 @@ outermost host line = record { host = host; line = line; left = most_levels; Ope
 -- ---- scripts
 
 -- the run of a script: the world before, the value of its last command or its first fault, and the world after
-abbrev pub RunsScript : {State : Type 0} → Host State → List ℕ → World State → Contents → World State → Type 0
+abbrev pub RunsScript : {State : Type 0} → Host State → List ℕ → World State → Outcome → World State → Type 0
 RunsScript host script before told after =
     RunsText (λ (command : Command). RunsCommand (outermost host command.line) command) script before told after
 
 -- what is told of a file: that it was run, or its first fault
-abbrev pub without_value : Contents → Result Unit (At Kind)
+abbrev pub without_value : Outcome → Result Unit (At Kind)
 without_value (Ok last) = Ok tt
 without_value (Err fault) = Err fault
 
 -- a file is run on a host, from no variable and no command on: what is told, and the host that is left
 abbrev pub Runs : {State : Type 0} → Host State → List ℕ → State → Result Unit (At Kind) → State → Type 0
 Runs {State = S} host script before given after =
-    (told : Contents) × (world : World S)
+    (told : Outcome) × (world : World S)
     × RunsScript host script (record { variables = []; host = before; begun = 0 }) told world
     × (given ≡ without_value told) × (after ≡ world.host)

@@ -8,7 +8,7 @@ use Rattle.source_types.specs.declared.verilog_tokens.VerilogToken.{VerilogToken
 use Rattle.source_types.specs.declared.verilog_tokens.VerilogToken.TheVariants as kind
 use Rattle.netlist_model.specs.VerilogSyntax as grammar
 use Rattle.netlist_model.specs.VerilogTokens as lexical
-use Rattle.verilog_net.specs.declared.tokens.Token.{Token}
+use Rattle.verilog_net.specs.declared.lexing.tokens.Token.{Token}
 use Rattle.verilog_net.specs.Seen.{token_seen, tokens_seen}
 use Rattle.verilog_net.specs.Syntax.{parts_seen}
 

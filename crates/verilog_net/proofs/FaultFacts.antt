@@ -11,7 +11,7 @@ use Rattle.netlist_model.specs.VerilogNets.{pieces_in}
 use Rattle.netlist_model.specs.VerilogStatements as grammar
 use Rattle.netlist_model.specs.VerilogSyntax as syntax
 use Rattle.netlist_model.specs.VerilogTokens as lexical
-use Rattle.verilog_net.specs.declared.names.Named.{Named}
+use Rattle.verilog_net.specs.declared.checking.names.Named.{Named}
 use Rattle.verilog_net.specs.Faults.{kept_wrong}
 use Rattle.verilog_net.specs.Modules.{written_seen}
 use Rattle.verilog_net.specs.Names.{named_modules}

@@ -3,8 +3,8 @@ use Rattle.std.proofs.Common.{◌≡◌, ◌∙◌, ◌+◌, ◌<◌, ◌≤◌,
 use Rattle.std.proofs.lemmas.List.{drop_all, drop_more}
 use Rattle.std.specs.Option.{option_map}
 use Rattle.netlist_model.specs.VerilogTokens as grammar
-use Rattle.verilog_net.specs.declared.gaps.Gap.{Gap}
-use Rattle.verilog_net.specs.declared.gaps.Gap.TheVariants as gap
+use Rattle.verilog_net.specs.declared.lexing.gaps.Gap.{Gap}
+use Rattle.verilog_net.specs.declared.lexing.gaps.Gap.TheVariants as gap
 use Rattle.verilog_net.specs.Seen.{gap_seen, rest_seen}
 
 -- the gap that was passed over so far leaves, with what is being passed over, what the whole gap leaves

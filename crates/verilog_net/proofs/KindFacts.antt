@@ -4,9 +4,9 @@ use Rattle.indexmap.specs.IndexSet.{IndexSet}
 use Rattle.source_types.specs.declared.verilog_tokens.VerilogToken.{VerilogToken}
 use Rattle.source_types.specs.declared.verilog_tokens.VerilogToken.TheVariants as kind
 use Rattle.netlist_model.specs.VerilogKinds as grammar
-use Rattle.verilog_net.specs.declared.contexts.Part.{Part}
-use Rattle.verilog_net.specs.declared.contexts.Part.TheVariants.{Statement}
-use Rattle.verilog_net.specs.declared.tokens.Token.{Token}
+use Rattle.verilog_net.specs.declared.syntax.contexts.Part.{Part}
+use Rattle.verilog_net.specs.declared.syntax.contexts.Part.TheVariants.{Statement}
+use Rattle.verilog_net.specs.declared.lexing.tokens.Token.{Token}
 use Rattle.verilog_net.proofs.TokenFacts.{append_none}
 use Rattle.verilog_net.specs.Contexts.{HasNames, part_seen}
 use Rattle.verilog_net.specs.Seen.{token_seen, tokens_seen}

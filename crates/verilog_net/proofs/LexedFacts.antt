@@ -13,8 +13,8 @@ use Rattle.text_model.specs.Bytes.{is_digit, is_letter}
 use Rattle.netlist_model.specs.VerilogConstants.{is_base_letter, lower, number_kind}
 use Rattle.netlist_model.specs.VerilogTokens as grammar
 use Rattle.netlist_model.specs.VerilogWords.{word_kind}
-use Rattle.verilog_net.specs.declared.lexed.Lexed.{Lexed}
-use Rattle.verilog_net.specs.declared.runs.Run.TheVariants.{Word, Number, Digits}
+use Rattle.verilog_net.specs.declared.lexing.lexed.Lexed.{Lexed}
+use Rattle.verilog_net.specs.declared.lexing.runs.Run.TheVariants.{Word, Number, Digits}
 use Rattle.verilog_net.specs.Runs.{test_of}
 use Rattle.verilog_net.specs.Seen.{IsLexed, has_base_letter}
 

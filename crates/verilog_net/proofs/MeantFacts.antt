@@ -11,7 +11,7 @@ use Rattle.netlist_model.specs.VerilogNets as spec
 use Rattle.netlist_model.specs.VerilogStatements as grammar
 use Rattle.netlist_model.specs.VerilogSyntax as syntax
 use Rattle.netlist_model.specs.WellFormedNetlist.{net_of_port}
-use Rattle.verilog_net.specs.declared.names.Named.{Named}
+use Rattle.verilog_net.specs.declared.checking.names.Named.{Named}
 use Rattle.verilog_net.specs.Modules.{written_seen}
 use Rattle.verilog_net.specs.Names.{named_modules}
 

@@ -7,7 +7,7 @@ use Rattle.source_types.specs.declared.verilog_tokens.VerilogToken.TheVariants a
 use Rattle.netlist_model.specs.VerilogStatements as grammar
 use Rattle.netlist_model.specs.VerilogSyntax as syntax
 use Rattle.netlist_model.specs.VerilogTokens.{Token}
-use Rattle.verilog_net.specs.declared.names.Named.{Named}
+use Rattle.verilog_net.specs.declared.checking.names.Named.{Named}
 use Rattle.verilog_net.specs.Modules.{modules_from, written_seen}
 use Rattle.verilog_net.specs.Names.{IsNamed, IsTied, declarations_of}
 

@@ -10,7 +10,7 @@ use Rattle.source_types.specs.declared.verilog_tokens.VerilogToken.{VerilogToken
 use Rattle.source_types.specs.declared.verilog_tokens.VerilogToken.TheVariants as kind
 use Rattle.netlist_model.specs.VerilogConstants as grammar
 use Rattle.netlist_model.specs.VerilogSyntax as syntax
-use Rattle.verilog_net.specs.declared.tokens.Token.{Token}
+use Rattle.verilog_net.specs.declared.lexing.tokens.Token.{Token}
 use Rattle.verilog_net.specs.Seen.{token_seen}
 use Rattle.verilog_net.specs.Syntax.{is_long, is_long_bound}
 

@@ -11,7 +11,7 @@ use Rattle.netlist_model.specs.Verilog as spec
 use Rattle.netlist_model.specs.VerilogNets.{meant_module}
 use Rattle.netlist_model.specs.VerilogStatements.{Written, modules_of}
 use Rattle.netlist_model.specs.VerilogTokens.{Token}
-use Rattle.verilog_net.specs.declared.faults.Wrong.{Wrong}
+use Rattle.verilog_net.specs.declared.checking.faults.Wrong.{Wrong}
 use Rattle.verilog_net.specs.Faults.{wrong_seen}
 use Rattle.verilog_net.specs.Recognition.{AreNetlist}
 

@@ -17,10 +17,10 @@ use Rattle.netlist_model.specs.VerilogSyntax as syntax
 use Rattle.text_model.specs.Words.{is_among, same_text}
 use Rattle.pin_types.specs.declared.library_cells.Direction.TheVariants.{Input}
 use Rattle.verilog_net.proofs.KindFacts.{no_token}
-use Rattle.verilog_net.specs.declared.declarations.Declared.{Declared}
-use Rattle.verilog_net.specs.declared.declarations.Role.TheVariants.{Port}
-use Rattle.verilog_net.specs.declared.repeats.Earlier.{Earlier}
-use Rattle.verilog_net.specs.declared.tokens.Token.{Token}
+use Rattle.verilog_net.specs.declared.parsing.declarations.Declared.{Declared}
+use Rattle.verilog_net.specs.declared.parsing.declarations.Role.TheVariants.{Port}
+use Rattle.verilog_net.specs.declared.checking.repeats.Earlier.{Earlier}
+use Rattle.verilog_net.specs.declared.lexing.tokens.Token.{Token}
 use Rattle.verilog_net.specs.Contexts.{HasNames}
 use Rattle.verilog_net.specs.Faults.{HasEarlier, earlier_of, earlier_seen, is_second_of, one_later}
 use Rattle.verilog_net.specs.Seen.{token_seen, tokens_seen}

@@ -11,8 +11,8 @@ use Rattle.std.proofs.lemmas.Str.{IsCharBoundary-after_ascii, IsCharBoundary-bef
 use Rattle.sdc_base.proofs.CaseFacts.{by_bool}
 use Rattle.netlist_model.specs.VerilogConstants.{is_digits_byte, is_number_byte}
 use Rattle.netlist_model.specs.VerilogTokens.{is_blank, is_word_byte}
-use Rattle.verilog_net.specs.declared.runs.Run.{Run}
-use Rattle.verilog_net.specs.declared.runs.Run.TheVariants.{Word, Number, Digits}
+use Rattle.verilog_net.specs.declared.lexing.runs.Run.{Run}
+use Rattle.verilog_net.specs.declared.lexing.runs.Run.TheVariants.{Word, Number, Digits}
 use Rattle.verilog_net.specs.Runs.{test_of}
 
 pub rest_is : (bytes rest : List ℕ) (at : ℕ) → rest ≡ take (length bytes - at) (drop at bytes) → rest ≡ drop at bytes

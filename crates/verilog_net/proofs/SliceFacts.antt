@@ -7,7 +7,7 @@ use Rattle.std.specs.List.{after_first, before_first, list_any, position_or_len,
 use Rattle.source_types.specs.declared.verilog_tokens.VerilogToken.{VerilogToken}
 use Rattle.netlist_model.specs.VerilogSyntax as grammar
 use Rattle.netlist_model.specs.VerilogTokens as lexical
-use Rattle.verilog_net.specs.declared.tokens.Token.{Token}
+use Rattle.verilog_net.specs.declared.lexing.tokens.Token.{Token}
 use Rattle.verilog_net.specs.Seen.{token_seen, tokens_seen}
 use Rattle.verilog_net.specs.Syntax.{directions_len, is_direction_seen, others_len}
 

@@ -13,7 +13,7 @@ use Rattle.sdc_base.proofs.CaseFacts.{by_bool}
 use Rattle.netlist_model.specs.VerilogNets.{declaration_of, is_of, is_port, is_port_of}
 use Rattle.netlist_model.specs.VerilogSyntax as grammar
 use Rattle.text_model.specs.Words.{same_text}
-use Rattle.verilog_net.specs.declared.declarations.Declared.{Declared}
+use Rattle.verilog_net.specs.declared.parsing.declarations.Declared.{Declared}
 use Rattle.verilog_net.specs.Names.{better, entry_seen, ports_only, with_entries, with_entry}
 use Rattle.verilog_net.specs.Syntax.{declared_seen, declareds_seen}
 

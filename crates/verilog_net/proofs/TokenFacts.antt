@@ -10,9 +10,9 @@ use Rattle.text_model.specs.LastLine.{last_line_of}
 use Rattle.text_model.specs.Row.{Front, Row, found}
 use Rattle.netlist_model.specs.Verilog.{line_of}
 use Rattle.netlist_model.specs.VerilogTokens as grammar
-use Rattle.verilog_net.specs.declared.lexed.Lexed.{Lexed}
-use Rattle.verilog_net.specs.declared.tokens.Place.{Place}
-use Rattle.verilog_net.specs.declared.tokens.Token.{Token}
+use Rattle.verilog_net.specs.declared.lexing.lexed.Lexed.{Lexed}
+use Rattle.verilog_net.specs.declared.lexing.tokens.Place.{Place}
+use Rattle.verilog_net.specs.declared.lexing.tokens.Token.{Token}
 use Rattle.verilog_net.specs.Seen.{IsLexed, front_seen, place_seen, rest_seen, token_seen, tokens_seen}
 
 -- ---- places

@@ -17,10 +17,10 @@ use Rattle.netlist_model.specs.VerilogNets as nets
 use Rattle.netlist_model.specs.VerilogSyntax as syntax
 use Rattle.netlist_model.specs.VerilogTokens as lexical
 use Rattle.netlist_model.proofs.RangeFacts.{indices_length, span_length}
-use Rattle.verilog_net.specs.declared.tokens.Token.{Token}
-use Rattle.verilog_net.specs.declared.names.Names.{Names}
-use Rattle.verilog_net.specs.declared.pieces.Piece.{Piece}
-use Rattle.verilog_net.specs.declared.pieces.Piece.TheVariants as piece
+use Rattle.verilog_net.specs.declared.lexing.tokens.Token.{Token}
+use Rattle.verilog_net.specs.declared.checking.names.Names.{Names}
+use Rattle.verilog_net.specs.declared.parsing.pieces.Piece.{Piece}
+use Rattle.verilog_net.specs.declared.parsing.pieces.Piece.TheVariants as piece
 use Rattle.verilog_net.specs.Names.{AreOverlong, declarations_of, has_long, len_of}
 use Rattle.verilog_net.specs.Seen.{token_seen, tokens_seen}
 use Rattle.verilog_net.specs.Syntax.{piece_seen, pieces_seen}

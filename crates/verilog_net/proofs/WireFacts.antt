@@ -11,8 +11,8 @@ use Rattle.source_types.specs.declared.netlists.Wire.{Wire}
 use Rattle.netlist_model.specs.VerilogNets as spec
 use Rattle.netlist_model.specs.VerilogSyntax as syntax
 use Rattle.text_model.specs.Words.{is_among, same_text}
-use Rattle.verilog_net.specs.declared.nets.Candidate.{Candidate}
-use Rattle.verilog_net.specs.declared.tokens.Token.{Token}
+use Rattle.verilog_net.specs.declared.meaning.nets.Candidate.{Candidate}
+use Rattle.verilog_net.specs.declared.lexing.tokens.Token.{Token}
 use Rattle.verilog_net.specs.Contexts.{HasNames}
 use Rattle.verilog_net.specs.Seen.{tokens_seen}
 use Rattle.verilog_net.specs.Wires.{AddsWire, candidate_seen, candidates_seen, taken_after, texts}

@@ -3,8 +3,8 @@ use Rattle.std.specs.Prelude.{◌≡◌, ℕ, List, String}
 use Rattle.indexmap.specs.IndexSet.{IndexSet, contains_text}
 use Rattle.netlist_model.specs.VerilogKinds as grammar
 use Rattle.text_model.specs.Words.{is_among}
-use Rattle.verilog_net.specs.declared.contexts.Part.{Part}
-use Rattle.verilog_net.specs.declared.contexts.Part.TheVariants.{Naming, Header, Statement, Declaring}
+use Rattle.verilog_net.specs.declared.syntax.contexts.Part.{Part}
+use Rattle.verilog_net.specs.declared.syntax.contexts.Part.TheVariants.{Naming, Header, Statement, Declaring}
 
 abbrev pub part_seen : Part → grammar.Part
 part_seen Naming = grammar.naming

@@ -6,8 +6,8 @@ use Rattle.indexmap.specs.IndexMap.{IndexMap, get_by_text}
 use Rattle.netlist_model.specs.Verilog as spec
 use Rattle.netlist_model.specs.VerilogNets.{is_of}
 use Rattle.netlist_model.specs.VerilogSyntax as syntax
-use Rattle.verilog_net.specs.declared.faults.Wrong.{Wrong}
-use Rattle.verilog_net.specs.declared.repeats.Earlier.{Earlier}
+use Rattle.verilog_net.specs.declared.checking.faults.Wrong.{Wrong}
+use Rattle.verilog_net.specs.declared.checking.repeats.Earlier.{Earlier}
 use Rattle.verilog_net.specs.Seen.{token_seen}
 use Rattle.verilog_net.specs.Syntax.{declared_seen}
 

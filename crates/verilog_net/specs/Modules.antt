@@ -5,7 +5,7 @@ use Rattle.source_types.specs.declared.verilog_tokens.VerilogToken.TheVariants a
 use Rattle.netlist_model.specs.VerilogStatements.{Written, module_of, statement_of}
 use Rattle.netlist_model.specs.VerilogSyntax.{is}
 use Rattle.netlist_model.specs.VerilogTokens.{Token}
-use Rattle.verilog_net.specs.declared.written.Written.{Written as Held}
+use Rattle.verilog_net.specs.declared.parsing.written.Written.{Written as Held}
 use Rattle.verilog_net.specs.Seen.{token_seen, tokens_seen}
 use Rattle.verilog_net.specs.Syntax.{declareds_seen, parts_seen}
 

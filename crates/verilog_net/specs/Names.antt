@@ -8,11 +8,11 @@ use Rattle.netlist_model.specs.VerilogConstants.{number_of}
 use Rattle.netlist_model.specs.VerilogNets.{bits_of, declaration_of, is_of, is_port, range_named}
 use Rattle.netlist_model.specs.VerilogStatements.{Written, declarations}
 use Rattle.netlist_model.specs.VerilogSyntax as grammar
-use Rattle.verilog_net.specs.declared.declarations.Declared.{Declared}
-use Rattle.verilog_net.specs.declared.names.Named.{Named}
-use Rattle.verilog_net.specs.declared.names.Names.{Names}
-use Rattle.verilog_net.specs.declared.pieces.Piece.{Piece}
-use Rattle.verilog_net.specs.declared.pieces.Piece.TheVariants as piece
+use Rattle.verilog_net.specs.declared.parsing.declarations.Declared.{Declared}
+use Rattle.verilog_net.specs.declared.checking.names.Named.{Named}
+use Rattle.verilog_net.specs.declared.checking.names.Names.{Names}
+use Rattle.verilog_net.specs.declared.parsing.pieces.Piece.{Piece}
+use Rattle.verilog_net.specs.declared.parsing.pieces.Piece.TheVariants as piece
 use Rattle.verilog_net.specs.Modules.{written_seen}
 use Rattle.verilog_net.specs.Syntax.{declared_seen, declareds_seen, is_long, pieces_seen}
 

@@ -14,7 +14,7 @@ use Rattle.netlist_model.specs.VerilogTokens.{AreTokens, Token}
 use Rattle.token_grammar.specs.declared.grammar.SyntaxError.{SyntaxError}
 use Rattle.token_grammar.specs.declared.grammar.SyntaxError.TheVariants as broken
 use Rattle.token_grammar.specs.Texts.{ErrorIs}
-use Rattle.verilog_net.specs.declared.tokens.Token.{Token as CodeToken}
+use Rattle.verilog_net.specs.declared.lexing.tokens.Token.{Token as CodeToken}
 use Rattle.verilog_net.specs.Seen.{tokens_seen}
 
 -- the line of the first syntax error of tokens

@@ -4,11 +4,11 @@ use Rattle.std.specs.Prelude.{◌≡◌, ◌<◌, ◌≤◌, ◌&&◌, ℕ, Bool
 use Rattle.text_model.specs.Row.{Front, found, stops}
 use Rattle.netlist_model.specs.VerilogConstants.{is_base_letter}
 use Rattle.netlist_model.specs.VerilogTokens as grammar
-use Rattle.verilog_net.specs.declared.gaps.Gap.{Gap}
-use Rattle.verilog_net.specs.declared.gaps.Gap.TheVariants as gap
-use Rattle.verilog_net.specs.declared.lexed.Lexed.{Lexed}
-use Rattle.verilog_net.specs.declared.tokens.Place.{Place}
-use Rattle.verilog_net.specs.declared.tokens.Token.{Token}
+use Rattle.verilog_net.specs.declared.lexing.gaps.Gap.{Gap}
+use Rattle.verilog_net.specs.declared.lexing.gaps.Gap.TheVariants as gap
+use Rattle.verilog_net.specs.declared.lexing.lexed.Lexed.{Lexed}
+use Rattle.verilog_net.specs.declared.lexing.tokens.Place.{Place}
+use Rattle.verilog_net.specs.declared.lexing.tokens.Token.{Token}
 
 -- what is being passed over
 abbrev pub gap_seen : Gap → grammar.Gap

@@ -8,12 +8,12 @@ use Rattle.source_types.specs.declared.verilog_tokens.VerilogToken.{VerilogToken
 use Rattle.netlist_model.specs.VerilogConstants.{constant_bits, number_of}
 use Rattle.netlist_model.specs.VerilogSyntax as grammar
 use Rattle.netlist_model.specs.VerilogTokens as lexical
-use Rattle.verilog_net.specs.declared.declarations.Declared.{Declared}
-use Rattle.verilog_net.specs.declared.declarations.Role.{Role}
-use Rattle.verilog_net.specs.declared.declarations.Role.TheVariants as role
-use Rattle.verilog_net.specs.declared.pieces.Piece.{Piece}
-use Rattle.verilog_net.specs.declared.pieces.Piece.TheVariants as piece
-use Rattle.verilog_net.specs.declared.tokens.Token.{Token}
+use Rattle.verilog_net.specs.declared.parsing.declarations.Declared.{Declared}
+use Rattle.verilog_net.specs.declared.parsing.declarations.Role.{Role}
+use Rattle.verilog_net.specs.declared.parsing.declarations.Role.TheVariants as role
+use Rattle.verilog_net.specs.declared.parsing.pieces.Piece.{Piece}
+use Rattle.verilog_net.specs.declared.parsing.pieces.Piece.TheVariants as piece
+use Rattle.verilog_net.specs.declared.lexing.tokens.Token.{Token}
 use Rattle.verilog_net.specs.Seen.{token_seen, tokens_seen}
 
 -- ---- declarations

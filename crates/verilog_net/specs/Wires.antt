@@ -5,7 +5,7 @@ use Rattle.source_types.specs.declared.netlists.Wire.{Wire}
 use Rattle.netlist_model.specs.VerilogNets.{new_wires}
 use Rattle.netlist_model.specs.VerilogTokens.{Token}
 use Rattle.text_model.specs.Words.{is_among}
-use Rattle.verilog_net.specs.declared.nets.Candidate.{Candidate}
+use Rattle.verilog_net.specs.declared.meaning.nets.Candidate.{Candidate}
 use Rattle.verilog_net.specs.Contexts.{HasNames}
 
 -- the texts of tokens

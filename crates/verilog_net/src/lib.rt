@@ -4,37 +4,12 @@
 //! what the modules are over a library.
 #![tactic(auto)]
 
-mod bits;
-mod bits_grammar;
-mod bytes;
-mod constants;
-mod contexts;
-mod declarations;
-mod faults;
-mod gaps;
-mod grammar;
-mod instances;
-mod kind_numbers;
-mod lexed;
-mod meant;
-mod modules;
-mod name_sets;
-mod names;
-mod netlist_text;
-mod nets;
-mod numbers;
-mod parts;
-mod pieces;
-mod ports;
+mod checking;
+mod lexing;
+mod meaning;
+mod parsing;
 mod read;
-mod recognition;
-mod repeats;
-mod runs;
-mod statements;
-mod tokens;
-mod uses;
-mod words;
-mod written;
+mod syntax;
 
 pub use read::read_verilog;
 pub use source_types::{Assign, Bit, Instance, Link, Links, Module, Port, Range, Wire};

@@ -7,12 +7,12 @@ ghost use Rattle.netlist_model.specs.VerilogStatements as grammar;
 ghost use Rattle.verilog_net.specs.Names.{IsNamed, named_modules};
 ghost use Rattle.verilog_net.specs.Seen.{tokens_seen};
 
-use crate::faults::first_fault;
-use crate::meant::meant_modules;
-use crate::modules::modules_of;
-use crate::names::Named;
-use crate::netlist_text::netlist_tokens;
-use crate::tokens::Token;
+use crate::checking::faults::first_fault;
+use crate::checking::names::Named;
+use crate::lexing::netlist_text::netlist_tokens;
+use crate::lexing::tokens::Token;
+use crate::meaning::meant::meant_modules;
+use crate::parsing::modules::modules_of;
 use sdc_base::{At, List, Stop};
 use source_types::{Module, VerilogKind};
 use std::alloc::Global;

@@ -1,6 +1,6 @@
 //! The steps of texts, and texts that are no expressions.
 
-use crate::parsing::parse_expression;
+use crate::expressions::parsing::parse_expression;
 use crate::tests::show_text;
 use sdc_base::NoMemory;
 use std::alloc::Global;

@@ -1,9 +1,9 @@
 //! The values of expressions without variables and scripts. Those of the tables `as_in_tclsh` are what
 //! `tclsh` 8.6 gives.
 
-use crate::operations::{changed, decided, joined};
-use crate::parsing::parse_expression;
-use crate::values::{computed, text_of};
+use crate::expressions::operations::{changed, decided, joined};
+use crate::expressions::parsing::parse_expression;
+use crate::expressions::values::{computed, text_of};
 use sdc_base::{Duplicate, NoMemory, Stop};
 use source_types::{BinaryOperator, Expression, ExpressionStep, Part, Scalar, TclKind, Word};
 use std::alloc::Global;

@@ -1,8 +1,0 @@
-use Rattle.std.proofs.Common.{◌≡◌, drop}
-use Rattle.lib_cells.specs.FirstFaults as faults
-use Rattle.lib_cells.specs.Members.{members_seen}
-use Rattle.lib_cells.proofs.cell_faults.member_faults.Given as goal
-
-abbrev pub invariant-loop-part : goal.invariant-loop-part
-invariant-loop-part l =
-    faults.first_among (faults.member_fault l.names l.places) (members_seen (drop l.part-index l.parts)) ≡ faults.first_among (faults.member_fault l.names l.places) (members_seen l.parts)

@@ -1,0 +1,7 @@
+//! The bytes of a library as tokens.
+
+pub mod characters;
+pub mod lexing;
+pub mod rest;
+pub mod scan;
+pub mod tokens;

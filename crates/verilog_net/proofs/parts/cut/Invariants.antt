@@ -1,5 +1,0 @@
-use Rattle.verilog_net.proofs.CutFacts.{CutSoFar}
-use Rattle.verilog_net.proofs.parts.cut.Given as goal
-
-abbrev pub invariant-loop-at : goal.invariant-loop-at
-invariant-loop-at l = CutSoFar l.kind l.tokens l.from l.at l.parts.items
