@@ -15,7 +15,7 @@ use Rattle.std.proofs.lemmas.List.{append_cancel_left, length-append}
 use Rattle.std.proofs.lemmas.List.Elements.{Contains-append_left, Contains-append_right}
 use Rattle.std.proofs.lemmas.Map.Lookups.{exact_bytes}
 use Rattle.std.proofs.lemmas.Map.Made.{length-le_from_is_member}
-use Rattle.std.proofs.lemmas.Map.Views.{distinguishes, list_any-from_Contains, btree_set_contains_iff}
+use Rattle.std.proofs.lemmas.Map.Views.{tells_apart, list_any-from_Contains, btree_set_contains_iff}
 use Rattle.clock_map.specs.MergedClocks.{IsTaken}
 use Rattle.merge_model.specs.ClockIdentity.{numbered_name, IsFreeName}
 
@@ -49,7 +49,7 @@ none_same name k (suc j) small below =
       differs : (b : Bool) → same (numbered_name name k) (numbered_name name (suc j)) ≡ b → b ≡ false
       differs false e = refl
       differs true e =
-          let equal = numbers_differ name k (suc j) small (omega arith) (distinguishes exact_bytes _ _ e) in absurd (omega arith)
+          let equal = numbers_differ name k (suc j) small (omega arith) (tells_apart exact_bytes _ _ e) in absurd (omega arith)
 
 distinct : (name : List ℕ) (k : ℕ) → k < 2 ^ 64 → IsDistinct same (names_to name k)
 unfolding names_to IsDistinct
@@ -68,7 +68,7 @@ one_member : (own earlier : List (List ℕ)) (q name : List ℕ) (b rest : Bool)
     → (rest ≡ true → is_member same (own ++ earlier) q ≡ true) → b || rest ≡ true → is_member same (own ++ earlier) q ≡ true
 one_member own earlier q name false rest taken e others h = others h
 one_member own earlier q name true rest taken e others h =
-    let equal : q ≡ name = distinguishes exact_bytes q name e in
+    let equal : q ≡ name = tells_apart exact_bytes q name e in
     ap (λ t. list_any (same t) (own ++ earlier)) equal
     ∙ list_any-from_Contains same_laws name (own ++ earlier) (among own earlier name taken)
 
