@@ -8,6 +8,7 @@
 mod parted_texts;
 
 pub use parted_texts::{
-    braces_and_quotes_end_at_their_own, brackets_pass_over_words_whole,
+    blanks_and_continued_lines_part_words, braces_and_quotes_end_at_their_own,
+    brackets_pass_over_words_whole, comments_end_at_the_first_free_newline,
     pairs_end_at_the_matching_one,
 };

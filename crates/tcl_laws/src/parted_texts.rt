@@ -1,8 +1,10 @@
 //! What brackets, braces and quotes pass over in a Tcl text, and what stands between its words and commands.
 
 ghost use Rattle.std.specs.Prelude.{◌≡◌, ◌==◌, ◌++◌, ◌∷◌, ℕ, Bool, true, false, List, [], Option, Some, None};
+ghost use Rattle.std.specs.List.{list_any};
 ghost use Rattle.std.specs.Option.{option_and_then};
-ghost use Rattle.text_model.specs.Bytes.{leads_word};
+ghost use Rattle.text_model.specs.Bytes.{begins_with, is_space, leads_word};
+ghost use Rattle.text_model.specs.Continued.{after_gap, comment, continues, from_command, parting};
 ghost use Rattle.text_model.specs.Enclosed.{after_brace, after_bracket};
 ghost use Rattle.tcl_laws.specs.Nested.{HasNone, Nest, after_quote, in_bracket, is_one_of, spelled};
 
@@ -51,4 +53,32 @@ pub fn pairs_end_at_the_matching_one()
         → after_brace (spelled 123 125 inside ++ (125 ∷ rest)) ≡ Some rest }
     ensures brackets { (inside : Nest) (rest : List ℕ) → HasNone (34 ∷ 91 ∷ 92 ∷ 93 ∷ 123 ∷ []) inside
         → after_bracket (spelled 91 93 inside ++ (93 ∷ rest)) ≡ Some rest }
+{}
+
+/// Words are parted by blanks, tabs and carriage returns, and by a backslash before a newline, or before a carriage
+/// return and a newline; by nothing else.
+pub fn blanks_and_continued_lines_part_words()
+    ensures spaces { (b : ℕ) (text : List ℕ) → is_space b ≡ true
+        → after_gap false (b ∷ text) ≡ after_gap false text }
+    ensures newline { (text : List ℕ) → after_gap false (92 ∷ (10 ∷ text)) ≡ after_gap false text }
+    ensures carriage { (text : List ℕ)
+        → after_gap false (92 ∷ (13 ∷ (10 ∷ text))) ≡ after_gap false text }
+    ensures word { (b : ℕ) (text : List ℕ) → is_space b ≡ false → (b ≡ 92 → continues text ≡ false)
+        → after_gap false (b ∷ text) ≡ b ∷ text }
+{}
+
+/// A comment begins with `#` where a command would start, and goes on up to the next newline that is no part of a
+/// backslash-newline: each byte is a part of it but that newline, and so is what a backslash takes out, a newline or a
+/// carriage return and a newline too. After the newline a command may start.
+pub fn comments_end_at_the_first_free_newline()
+    ensures begins { (text : List ℕ) → from_command parting (35 ∷ text) ≡ from_command comment text }
+    ensures ends { (inside rest : List ℕ) → list_any (is_one_of (10 ∷ 92 ∷ [])) inside ≡ false
+        → from_command comment (inside ++ (10 ∷ rest)) ≡ from_command parting rest }
+    ensures backslash { (inside : List ℕ) (b : ℕ) (rest : List ℕ)
+        → list_any (is_one_of (10 ∷ 92 ∷ [])) inside ≡ false → (b ≡ 13 → begins_with 10 rest ≡ false)
+        → from_command comment (inside ++ (92 ∷ (b ∷ rest))) ≡ from_command comment rest }
+    ensures carriage { (inside rest : List ℕ) → list_any (is_one_of (10 ∷ 92 ∷ [])) inside ≡ false
+        → from_command comment (inside ++ (92 ∷ (13 ∷ (10 ∷ rest)))) ≡ from_command comment rest }
+    ensures no_end { (inside : List ℕ) → list_any (is_one_of (10 ∷ 92 ∷ [])) inside ≡ false
+        → from_command comment inside ≡ [] }
 {}
