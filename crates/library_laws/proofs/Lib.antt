@@ -11,5 +11,6 @@ pub mod NamedUnits
 pub mod OneLibrary
 pub mod ReadIsSpelled
 pub mod RisingCells
+pub mod ShownBytes
 pub mod SpelledIsRead
 pub mod UsableLibraries

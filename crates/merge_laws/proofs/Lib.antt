@@ -1,3 +1,3 @@
 pub mod IdentityExamples
 pub mod KeyLineExamples
-pub mod Requirements
+pub mod SameRequirements

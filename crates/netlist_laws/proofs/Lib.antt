@@ -8,6 +8,7 @@ pub mod NetTexts
 pub mod NetlistMeans
 pub mod NetsOfModules
 pub mod OneNetlist
+pub mod PassedGaps
 pub mod ReadNetlists
 pub mod SmallNetlists
 pub mod VerilogExamples

@@ -1,4 +1,4 @@
-use Rattle.merge_laws.proofs.Requirements.{same_requirement}
+use Rattle.merge_laws.proofs.SameRequirements.{same_requirement}
 use Rattle.merge_laws.proofs.requirements.same_modes_have_same_requirements.Goals as goal
 
 pub returns : goal.returns
